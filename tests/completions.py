@@ -1,9 +1,11 @@
 #!/usr/bin/env python3
-"""Compares the options that the completions of each shell offer for a subcommand with those of its help:
-completions.py PROGRAM
+"""Compares the completions of each shell with what tools/completions writes from the help, and the options that they
+offer for a subcommand with those of its help: completions.py PROGRAM
 
 tests/pages runs it. bash runs its completions; those of zsh and fish are read as text.
 """
+import importlib.machinery
+import importlib.util
 import os
 import re
 import subprocess
@@ -14,6 +16,14 @@ FOLDER = f"{HERE}/packages/completions"
 COMMANDS = ("show", "check", "canon", "loop", "serve", "tap", "proxy", "ask")
 # In the help an option begins its line, behind the short name if it has one.
 HELPED = re.compile(r"^ +(?:-(\w)(?:, | |$))?(?:--([a-z][a-z0-9-]*))?", re.M)
+
+
+def written():
+    """Loads tools/completions as a module."""
+    loader = importlib.machinery.SourceFileLoader("written", f"{HERE}/tools/completions")
+    module = importlib.util.module_from_spec(importlib.util.spec_from_loader("written", loader))
+    loader.exec_module(module)
+    return module
 
 
 def content(name):
@@ -70,7 +80,7 @@ def of_fish(command):
 
 def gaps(program):
     """Returns how the completions differ from the help of the program, a line for each shell and subcommand."""
-    wrong = []
+    wrong = [f"{it}: run tools/completions, which writes it from the help" for it in written().stale(program)]
     for command in COMMANDS:
         helped = of_help(program, command)
         if len(helped) < 4:

@@ -1,5 +1,5 @@
 /* Compares resp_reply_read with nodes that are made here from the events of a scanner, for many streams.
- * tests/bindings runs it; the crate `check_c_events` describes the format of standard input. It prints the
+ * tests/bindings runs it; the crate `test_c_events` describes the format of standard input. It prints the
  * number of streams, of replies and of replies that are not plain, or the first difference. */
 #include "resp.h"
 

@@ -1,5 +1,5 @@
 /* Prints a checksum of the events of each of many streams. tests/bindings compares it with that of the
- * crate `check_c_events`, which uses the scanner itself. That crate describes the format of standard
+ * crate `test_c_events`, which uses the scanner itself. That crate describes the format of standard
  * input. With an argument N, it asks for N events at once and splits whole texts into their events. */
 #include "resp.h"
 

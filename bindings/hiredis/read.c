@@ -211,18 +211,48 @@ static inline bool add_string(struct reader *reader, int type, char *start, size
     return keep(reader, task, fn && fn->createString ? fn->createString(task, start, length) : kind(task));
 }
 
-/* Adds a double. Its text has to be a number, an infinity or a NaN. */
+static bool is_digit(char byte) { return byte >= '0' && byte <= '9'; }
+
+/* Returns whether a text that a NUL ends is a double of the published grammar: an optional sign and digits, with an optional
+ * fraction and exponent, or `inf`, `-inf` or `nan`. `-nan` is one too: redis-server 7.0 writes it. strtod reads more, such as
+ * `.5`, `0x1p3` and `nan(1)`. */
+static bool is_double(const char *text) {
+    const char *named = text + (*text == '-');
+    if (!strcmp(named, "inf") || !strcmp(named, "nan"))
+        return true;
+    text += *text == '+' || *text == '-';
+    if (!is_digit(*text))
+        return false;
+    while (is_digit(*text))
+        text++;
+    if (*text == '.') {
+        if (!is_digit(*++text))
+            return false;
+        while (is_digit(*text))
+            text++;
+    }
+    if (*text != 'e' && *text != 'E')
+        return !*text;
+    text += 1 + (text[1] == '+' || text[1] == '-');
+    if (!is_digit(*text))
+        return false;
+    while (is_digit(*text))
+        text++;
+    return !*text;
+}
+
+/* Adds a double. */
 static APART bool add_double(struct reader *reader, char *start, size_t length) {
 #ifdef REDIS_REPLY_DOUBLE
     redisReplyObjectFunctions *fn = reader->base.fn;
     redisReadTask *task = task_of(reader, REDIS_REPLY_DOUBLE);
-    char text[MOST_DOUBLE], *rest;
-    if (!length || length >= sizeof text || isspace((unsigned char)*start))
+    char text[MOST_DOUBLE];
+    if (length >= sizeof text || memchr(start, '\0', length))
         return fail(reader, REDIS_ERR_PROTOCOL, "Bad double value");
     memcpy(text, start, length);
     text[length] = '\0';
-    double number = strtod(text, &rest);
-    if (rest != text + length)
+    double number = strtod(text, NULL);
+    if (!is_double(text))
         return fail(reader, REDIS_ERR_PROTOCOL, "Bad double value");
     return keep(reader, task, fn && fn->createDouble ? fn->createDouble(task, number, text, length) : kind(task));
 #else

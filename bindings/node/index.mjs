@@ -10,6 +10,10 @@ const [ERROR, DOUBLE, BULK_ERROR, VERBATIM, BIG] =
   ['error', 'double', 'bulk error', 'verbatim string', 'big number'].map((name) => TEXTS.indexOf(name));
 const [SET, MAP, ATTRIBUTE, PUSH] = ['set', 'map', 'attribute', 'push'].map((name) => AGGREGATES.indexOf(name));
 
+// The number of the error Syntax, and the texts of doubles.
+const SYNTAX = 1;
+const DOUBLE_TEXT = /^(?:[+-]?\d+(?:\.\d+)?(?:[eE][+-]?\d+)?|-?inf|-?nan)$/;
+
 const module = new WebAssembly.Module(readFileSync(new URL('resp.wasm', import.meta.url)));
 
 /** An error that the server replied. */
@@ -22,6 +26,9 @@ export class ErrorReply extends Error {
 
 /** A push, which answers no command. */
 export class Push extends Array {}
+
+/** The pairs of a map with keys that are equal in JavaScript, as 0 and -0 are. */
+export class Pairs extends Array {}
 
 /** A verbatim string with its format, such as "txt". */
 export class Verbatim {
@@ -57,7 +64,7 @@ export class Reader {
     const cause = this.scanner.scan(buffer, (words, at, place) => {
       this.take(words, at, buffer, place + words[at + 6]);
     });
-    if (cause) this.failure = new RespError(cause);
+    if (cause && !this.failure) this.failure = new RespError(cause);
   }
 
   /**
@@ -73,6 +80,7 @@ export class Reader {
 
   // Takes an event, which ends at `to` in the piece. Its 12 words begin at `at` of `words`.
   take(words, at, piece, to) {
+    if (this.failure) return undefined;
     switch (words[at]) {
       case WHOLE: return this.add(this.valueOf(words[at + 1], piece, to - words[at + 8] - 2, to - 2));
       case INTEGER: return this.add(integer(words[at + 2], words[at + 3]));
@@ -111,8 +119,14 @@ export class Reader {
   // The value of a simple string, an error, a double or a bulk string.
   valueOf(form, buffer, from, to) {
     if (form === ERROR || form === BULK_ERROR) return new ErrorReply(buffer.utf8Slice(from, to));
-    if (form === DOUBLE) return double(buffer.latin1Slice(from, to));
+    if (form === DOUBLE) return this.double(buffer.latin1Slice(from, to));
     return this.decode(buffer, from, to);
+  }
+
+  // A text that is no double of the published grammar breaks the protocol. redis-server 7.0 writes `-nan`.
+  double(text) {
+    if (!DOUBLE_TEXT.test(text)) this.failure = new RespError(SYNTAX);
+    return { inf: Infinity, '-inf': -Infinity }[text] ?? Number(text);
   }
 
   decode(buffer, from, to) {
@@ -126,14 +140,15 @@ export class Reader {
 
   close() {
     const { form, members } = this.open.pop();
-    if (form === SET) this.add(new Set(members));
-    else if (form === MAP) this.add(new Map(pairs(members)));
+    if (form === SET) this.add(setOf(members));
+    else if (form === MAP) this.add(mapOf(members));
     // The value that an attribute annotates is the reply; the attribute itself is dropped.
     else if (form === ATTRIBUTE) this.add(members.at(-1));
     else this.add(form === PUSH ? Push.from(members) : members);
   }
 
   add(value) {
+    if (this.failure) return;
     const { open } = this;
     if (open.length > 0) open[open.length - 1].members.push(value);
     else this.replies.push(value);
@@ -146,7 +161,17 @@ function integer(low, high) {
   return Number.isSafeInteger(number) ? number : BigInt.asIntN(64, (BigInt(high) << 32n) | BigInt(low));
 }
 
-const double = (text) => ({ inf: Infinity, '-inf': -Infinity })[text] ?? Number(text);
+// A set, or an array if two members are equal in JavaScript, as 0 and -0 are: nothing is lost.
+function setOf(members) {
+  const set = new Set(members);
+  return set.size === members.length ? set : members;
+}
+
+// A map, or its pairs if two keys are equal in JavaScript.
+function mapOf(members) {
+  const map = new Map(pairs(members));
+  return map.size === members.length / 2 ? map : Pairs.from(pairs(members));
+}
 
 function* pairs(members) {
   for (let at = 0; at + 1 < members.length; at += 2) yield [members[at], members[at + 1]];

@@ -3,7 +3,7 @@ import assert from 'node:assert/strict';
 import { pathToFileURL } from 'node:url';
 import { resolve } from 'node:path';
 
-const { Connection, ErrorReply, pack, Push, Reader, RespError, Verbatim } = await import(pathToFileURL(resolve(process.argv[2], 'index.mjs')));
+const { Connection, ErrorReply, pack, Pairs, Push, Reader, RespError, Verbatim } = await import(pathToFileURL(resolve(process.argv[2], 'index.mjs')));
 
 const STREAM = '%2\r\n+a\r\n:1\r\n$1\r\nb\r\n*2\r\n_\r\n#t\r\n~2\r\n:1\r\n:2\r\n,1.5\r\n(-12345678901234567890\r\n=6\r\ntxt:hi\r\n>1\r\n+note\r\n'
   + '-ERR no\r\n|1\r\n+ttl\r\n:9\r\n$5\r\nhello\r\n:9223372036854775807\r\n$?\r\n;2\r\nab\r\n;1\r\nc\r\n;0\r\n*?\r\n:1\r\n.\r\n';
@@ -33,6 +33,33 @@ const tests = {
     const reader = new Reader({ encoding: null });
     reader.feed(Buffer.from('$2\r\n\xff\x00\r\n', 'latin1'));
     assert.deepEqual(reader.get(), Buffer.of(255, 0));
+  },
+  'doubles outside the published grammar are refused'() {
+    const read = (text) => {
+      const reader = new Reader();
+      reader.feed(Buffer.from(`:1\r\n*2\r\n,${text}\r\n:2\r\n:3\r\n`, 'latin1'));
+      assert.equal(reader.get(), 1);
+      return reader;
+    };
+    for (const text of ['', 'abc', '.5', '1.', '-', '0x10', '1e', '1e+', 'Infinity', 'NaN', '+inf', 'nan(1)', ' 1', '1 ', '1_0', '1\0']) {
+      const reader = read(text);
+      for (let time = 0; time < 2; time++) assert.throws(() => reader.get(), { message: 'Syntax' }, text);
+    }
+    for (const text of ['0', '+1.5', '-1.50', '1e3', '1E+3', '-1.7976931348623157e+308']) assert.equal(read(text).get()[0], Number(text));
+    for (const [text, number] of [['inf', Infinity], ['-inf', -Infinity], ['nan', NaN], ['-nan', NaN]]) assert.deepEqual(read(text).get(), [number, 2]);
+  },
+  'keys and members that are equal in JavaScript are kept'() {
+    const rows = [
+      ['~3\r\n:0\r\n#f\r\n,0\r\n', [0, false, 0]],
+      ['~2\r\n:0\r\n#f\r\n', new Set([0, false])],
+      ['%2\r\n+a\r\n:1\r\n+a\r\n:2\r\n', Pairs.from([['a', 1], ['a', 2]])],
+      ['%2\r\n:1\r\n+a\r\n#t\r\n+b\r\n', new Map([[1, 'a'], [true, 'b']])],
+    ];
+    for (const [text, wanted] of rows) {
+      const reader = new Reader();
+      reader.feed(Buffer.from(text));
+      assert.deepEqual(reader.get(), wanted, text);
+    }
   },
   'limits outside their range are refused'() {
     assert.throws(() => new Reader({ depth: 1 }), { message: 'BadLimits' });

@@ -33,6 +33,8 @@ struct reader {
     struct resp_scanner scanner;
     struct values values;
     PyObject *protocol_error, *not_enough_data;
+    /* Whether not_enough_data is the one that the protocol has by default. */
+    bool waits_by_default;
     /* Whether replies are paired with commands; the commands that wait, and the number of the current reply. */
     bool pairs;
     struct resp_pairing pairing;
@@ -64,10 +66,12 @@ static PyObject *refuse(struct reader *reader, uint32_t cause, uint64_t at) {
     return NULL;
 }
 
-/* Raises protocolError for a double that is no number. The byte isn't known. */
-static APART PyObject *refuse_double(struct reader *reader) {
-    PyObject *error = PyObject_CallFunction(reader->protocol_error, "s", "Syntax in a double");
-    PyObject *cause = error ? PyUnicode_FromString("Syntax") : NULL;
+/* Raises protocolError for a double that is no number, or for a big number that is too long. The byte isn't known. */
+static APART PyObject *refuse_number(struct reader *reader) {
+    const char *bad = reader->values.bad;
+    PyObject *error = PyObject_CallFunction(reader->protocol_error, "s",
+                                            strcmp(bad, "Length") ? "Syntax in a double" : "Length of a big number");
+    PyObject *cause = error ? PyUnicode_FromString(bad) : NULL;
     if (cause && !PyObject_SetAttrString(error, "cause", cause) && !PyObject_SetAttrString(error, "at", Py_None))
         PyErr_SetObject((PyObject *)Py_TYPE(error), error);
     Py_XDECREF(cause);
@@ -264,9 +268,9 @@ static inline PyObject *read_on(struct reader *reader, bool pairs) {
             reader->next = event + 1;
             reader->pos = (size_t)(at - reader->fed) + event->used;
             reader->is_begun = false;
-            if (reader->values.is_bad) {
+            if (reader->values.bad) {
                 forget(&reader->values);
-                return refuse_double(reader);
+                return refuse_number(reader);
             }
             return whole(&reader->values);
         } else if (scan(reader)) {
@@ -307,8 +311,8 @@ static PyObject *reader_gets(struct reader *reader, PyObject *const *args, Py_ss
     if (count > 1 || decodes < 0 || !is_ready(reader))
         return NULL;
     reader->values.reads_now = decodes ? reader->values.reads : AS_BYTES;
-    if (reader->values.is_bad)
-        return refuse_double(reader);
+    if (reader->values.bad)
+        return refuse_number(reader);
     reader->is_reading = true;
     PyObject *reply = reader->pairs ? read_paired(reader) : read_reply(reader);
     reader->is_reading = false;
@@ -342,6 +346,13 @@ static PyObject *reader_setmaxbuf(struct reader *reader, PyObject *most) {
     Py_RETURN_NONE;
 }
 
+/* Sets what gets returns until a reply is complete, as the protocol has it by default. */
+static void wait_by_default(struct reader *reader, unsigned int version) {
+    PyObject *waiting = version == 3 ? reader->values.module->no_reply : Py_False;
+    Py_INCREF(waiting);
+    replace(&reader->not_enough_data, waiting);
+}
+
 static PyObject *reader_set_protocol(struct reader *reader, PyObject *args) {
     unsigned int version;
     if (!PyArg_ParseTuple(args, "I:set_protocol", &version) || !is_ready(reader))
@@ -356,6 +367,8 @@ static PyObject *reader_set_protocol(struct reader *reader, PyObject *args) {
     }
     if (version != reader->version)
         scan_again(reader, version);
+    if (reader->waits_by_default)
+        wait_by_default(reader, version);
     Py_RETURN_NONE;
 }
 
@@ -467,7 +480,7 @@ static bool read_words(struct words *to, const struct module *module, PyObject *
     resp_limits_standard(&limits);
     unsigned long long depth = limits.depth, length = limits.length, total = limits.total, items = limits.items;
     int streamed = limits.streamed, doubles = 1;
-    *to = (struct words){module->protocol_error, module->reply_error, Py_False, NULL, NULL, 2, limits, 0};
+    *to = (struct words){module->protocol_error, module->reply_error, NULL, NULL, NULL, 2, limits, 0};
     if (!PyArg_ParseTupleAndKeywords(args, words, "|OOzzOIKKKKppp:Reader", names, &to->protocol_error, &to->reply_error,
                                      &to->encoding, &to->errors, &to->not_enough_data, &to->version, &depth, &length,
                                      &total, &items, &streamed, &doubles, &to->lists_sets))
@@ -559,15 +572,20 @@ static void begin(struct reader *reader, const struct words *given) {
     reader->limits = given->limits;
     reader->maxbuf = MOST_KEPT;
     reader->values.lists_sets = given->lists_sets;
-    reader->values.is_bad = false;
+    reader->values.bad = NULL;
     drop_fed(reader);
     begin_scanning(reader, given->version);
     Py_INCREF(given->protocol_error);
     replace(&reader->protocol_error, given->protocol_error);
     Py_INCREF(given->reply_error);
     replace(&reader->values.reply_error, given->reply_error);
-    Py_INCREF(given->not_enough_data);
-    replace(&reader->not_enough_data, given->not_enough_data);
+    reader->waits_by_default = !given->not_enough_data;
+    if (reader->waits_by_default) {
+        wait_by_default(reader, given->version);
+    } else {
+        Py_INCREF(given->not_enough_data);
+        replace(&reader->not_enough_data, given->not_enough_data);
+    }
     reader->is_reading = false;
 }
 
@@ -734,7 +752,7 @@ static PyType_Slot READER_SLOTS[] = {
     {Py_tp_traverse, reader_traverse},
     {Py_tp_clear, reader_clear},
     {Py_tp_methods, READER_METHODS},
-    {Py_tp_doc, "Reader(protocolError, replyError, encoding=None, errors=None, notEnoughData=False, protocol=2, depth=32,\n"
+    {Py_tp_doc, "Reader(protocolError, replyError, encoding=None, errors=None, notEnoughData=.., protocol=2, depth=32,\n"
                 "       length=536870912, total=1073741824, items=1099511627776, streamed=True, doubles=True,\n"
                 "       convertSetsToLists=False)\n--\n\n"
                 "Reads replies of RESP2 or RESP3 from pieces of any size."},
@@ -801,6 +819,39 @@ static bool add_type(PyObject *module, const char *name, PyType_Spec *spec) {
     return is_added;
 }
 
+static PyObject *no_reply_repr(PyObject *self) {
+    (void)self;
+    return PyUnicode_FromString("resp.NO_REPLY");
+}
+
+static int no_reply_bool(PyObject *self) {
+    (void)self;
+    return 0;
+}
+
+static PyType_Slot NO_REPLY_SLOTS[] = {
+    {Py_tp_repr, no_reply_repr},
+    {Py_nb_bool, no_reply_bool},
+    {Py_tp_doc, "The type of NO_REPLY, which gets returns in protocol 3 until a reply is complete. It is false."},
+    {0, NULL},
+};
+
+static PyType_Spec NO_REPLY = {"resp.NoReply", sizeof(PyObject), 0, Py_TPFLAGS_DEFAULT, NO_REPLY_SLOTS};
+
+/* Makes the object that stands for no reply. */
+static PyObject *make_no_reply(void) {
+    PyObject *type = PyType_FromSpec(&NO_REPLY);
+    PyObject *made = type ? PyObject_CallFunctionObjArgs(type, NULL) : NULL;
+    Py_XDECREF(type);
+    return made;
+}
+
+/* Makes a type of lists. With the name of the package its values can be pickled. */
+static PyObject *make_list_type(const char *name, const char *doc) {
+    return PyObject_CallFunction((PyObject *)&PyType_Type, "s(O){ssss}", name, (PyObject *)&PyList_Type, "__doc__", doc,
+                                 "__module__", "resp");
+}
+
 static bool make_usual(struct module *to) {
     if (!(to->ok = PyBytes_FromString("OK")))
         return false;
@@ -817,12 +868,13 @@ static int fill_module(PyObject *module) {
         return -1;
     to->protocol_error = PyErr_NewException("resp.ProtocolError", error, NULL);
     to->reply_error = PyErr_NewException("resp.ReplyError", error, NULL);
-    /* With the name of the package a push can be pickled. */
-    to->push = PyObject_CallFunction((PyObject *)&PyType_Type, "s(O){ssss}", "Push", (PyObject *)&PyList_Type, "__doc__",
-                                     "The members of a push.", "__module__", "resp");
+    to->push = make_list_type("Push", "The members of a push.");
+    to->pairs = make_list_type("Pairs", "The pairs of a map with keys that are equal in Python.");
+    to->no_reply = make_no_reply();
     bool is_filled = make_usual(to) && add_name(module, "RespError", error) &&
                      add_name(module, "ProtocolError", to->protocol_error) &&
                      add_name(module, "ReplyError", to->reply_error) && add_name(module, "Push", to->push) &&
+                     add_name(module, "Pairs", to->pairs) && add_name(module, "NO_REPLY", to->no_reply) &&
                      add_type(module, "Reader", &READER) && add_type(module, "Pairing", &PAIRING) &&
                      !PyModule_AddStringConstant(module, "__version__", RESP_VERSION);
     Py_DECREF(error);
@@ -834,6 +886,8 @@ static int module_traverse(PyObject *module, visitproc visit, void *arg) {
     Py_VISIT(to->protocol_error);
     Py_VISIT(to->reply_error);
     Py_VISIT(to->push);
+    Py_VISIT(to->pairs);
+    Py_VISIT(to->no_reply);
     return 0;
 }
 
@@ -845,6 +899,8 @@ static void module_free(void *module) {
     Py_CLEAR(to->protocol_error);
     Py_CLEAR(to->reply_error);
     Py_CLEAR(to->push);
+    Py_CLEAR(to->pairs);
+    Py_CLEAR(to->no_reply);
     Py_CLEAR(to->ok);
     for (size_t at = 0; at < MOST_SMALL; at++)
         Py_CLEAR(to->small[at]);

@@ -50,7 +50,8 @@ ROWS = [
     (3, b"*?\r\n:1\r\n.\r\n", [[1]]),
     (3, b"%2\r\n+a\r\n:1\r\n+b\r\n*1\r\n:2\r\n", [{b"a": 1, b"b": [2]}]),
     (3, b"%1\r\n*2\r\n+a\r\n%1\r\n:1\r\n:2\r\n:3\r\n", [{(b"a", ((1, 2),)): 3}]),
-    (3, b"~3\r\n:1\r\n:1\r\n*1\r\n:2\r\n", [{1, (2,)}]),
+    (3, b"~3\r\n:1\r\n:3\r\n*1\r\n:2\r\n", [{1, 3, (2,)}]),
+    (3, b"~3\r\n:1\r\n:1\r\n*1\r\n:2\r\n", [[1, 1, [2]]]),
     (3, b"|1\r\n+a\r\n*1\r\n:1\r\n+v\r\n:2\r\n", [b"v", 2]),
     (3, b"*2\r\n|2\r\n+a\r\n:1\r\n+b\r\n:2\r\n+v\r\n:3\r\n", [[b"v", 3]]),
     (3, b">2\r\n+m\r\n+n\r\n", [[b"m", b"n"]]),
@@ -193,7 +194,62 @@ class Rows(unittest.TestCase):
         self.assertEqual([str(given[4]), str(given[5])], ["ERR x", "E\r\ny"])
 
     def test_nan(self):
-        self.assertTrue(math.isnan(replies(reader(protocol=3), [b",nan\r\n"])[0]))
+        for text in (b",nan\r\n", b",-nan\r\n"):
+            self.assertTrue(math.isnan(replies(reader(protocol=3), [text])[0]))
+
+    def test_doubles_of_the_grammar(self):
+        for text in (b"0", b"-0", b"+1.5", b"1.50", b"1e3", b"1E+3", b"-1.7976931348623157e+308", b"5e-324"):
+            self.assertEqual(replies(reader(protocol=3), [b"," + text + b"\r\n"]), [float(text)])
+        self.assertEqual(replies(reader(protocol=3), [b",inf\r\n,-inf\r\n"]), [math.inf, -math.inf])
+
+    def test_what_waits_is_no_reply(self):
+        """In protocol 3 `False` is a reply, so an object of its own says that none is complete."""
+        read = resp.Reader(protocol=3)
+        read.feed(b"#f\r\n#")
+        self.assertIs(read.gets(), False)
+        self.assertIs(read.gets(), resp.NO_REPLY)
+        read.feed(b"f\r\n")
+        self.assertIs(read.gets(), False)
+        self.assertIs(read.gets(), resp.NO_REPLY)
+        self.assertFalse(resp.NO_REPLY)
+        self.assertEqual(repr(resp.NO_REPLY), "resp.NO_REPLY")
+        read.set_protocol(2)
+        self.assertIs(read.gets(), False)
+        self.assertIs(resp.Reader().gets(), False)
+        self.assertIsNone(resp.Reader(protocol=3, notEnoughData=None).gets())
+        given = resp.Reader(notEnoughData=None)
+        given.set_protocol(3)
+        self.assertIsNone(given.gets())
+
+    def test_equal_keys_and_members_are_kept(self):
+        """Keys and members that are equal in Python, as 1 and True are, become a list: nothing is lost."""
+        rows = [
+            (b"%2\r\n:1\r\n+a\r\n#t\r\n+b\r\n", resp.Pairs([(1, b"a"), (True, b"b")])),
+            (b"%2\r\n+a\r\n:1\r\n+a\r\n:2\r\n", resp.Pairs([(b"a", 1), (b"a", 2)])),
+            (b"%1\r\n+a\r\n%2\r\n:0\r\n:1\r\n#f\r\n:2\r\n", {b"a": resp.Pairs([(0, 1), (False, 2)])}),
+            (b"~3\r\n:0\r\n#f\r\n,0\r\n", [0, False, 0.0]),
+            (b"~2\r\n:0\r\n:1\r\n", {0, 1}),
+            (b"*1\r\n~2\r\n*1\r\n:1\r\n*1\r\n#t\r\n", [[[1], [True]]]),
+        ]
+        for text, wanted in rows:
+            for pieces in cuts(text):
+                given, = replies(reader(protocol=3), pieces)
+                self.assertEqual(repr(given), repr(wanted), pieces)
+                self.assertIs(type(given), type(wanted))
+
+    def test_big_numbers_of_many_digits(self):
+        """Python's int() refuses more than 4,300 digits at once. A big number may have 65,536."""
+        for count in (1, 3999, 4000, 4001, 4300, 4301, 8000, 12345, 65536):
+            for sign in (b"", b"-"):
+                given, = replies(reader(protocol=3), [b"(" + sign + b"7" * count + b"\r\n"])
+                self.assertEqual(given, (10**count - 1) // 9 * (-7 if sign else 7), count)
+        long = reader(protocol=3)
+        long.feed(b":1\r\n(" + b"7" * 65537 + b"\r\n:2\r\n")
+        self.assertEqual(long.gets(), 1)
+        for _ in range(2):
+            with self.assertRaises(resp.ProtocolError) as raised:
+                long.gets()
+            self.assertEqual((raised.exception.cause, raised.exception.at), ("Length", None))
 
     def test_a_refusal_names_cause_and_byte_for_good(self):
         rows = [
@@ -370,7 +426,7 @@ class Rows(unittest.TestCase):
         read.feed(b"*3\r\n+a\r\n+b")
         read.__init__(protocol=3)
         read.feed(b"_\r\n+c\r\n")
-        self.assertEqual([read.gets(), read.gets(), read.gets()], [None, b"c", False])
+        self.assertEqual([read.gets(), read.gets(), read.gets()], [None, b"c", resp.NO_REPLY])
 
     @unittest.skipUnless(_testcapi, "this Python can't refuse memory")
     def test_each_piece_of_memory_refused(self):
@@ -484,18 +540,19 @@ class Rows(unittest.TestCase):
         with open(resp.__file__.replace("__init__.py", "__init__.pyi"), encoding="utf-8") as file:
             stubs = ast.parse(file.read())
         named = {it.name: it for it in stubs.body if isinstance(it, (ast.ClassDef, ast.FunctionDef))}
-        self.assertEqual({*named} | {"__version__"}, {*resp.__all__})
+        constants = {it.target.id for it in stubs.body if isinstance(it, ast.AnnAssign)}
+        self.assertEqual({*named} - {"NoReply"} | constants, {*resp.__all__})
         for name in ("Reader", "Pairing"):
             methods = {it.name for it in named[name].body if isinstance(it, ast.FunctionDef)} - {"__init__"}
             self.assertEqual(methods, {it for it in vars(getattr(resp, name)) if not it.startswith("__")})
 
     def test_doubles(self):
-        for text, wanted in [(b"1.5", 1.5), (b"-1", -1.0), (b"+1.", 1.0), (b".5", 0.5), (b"1e3", 1000.0), (b"1.5E-1", 0.15),
+        for text, wanted in [(b"1.5", 1.5), (b"-1", -1.0), (b"+1.0", 1.0), (b"0.5", 0.5), (b"1e3", 1000.0), (b"1.5E-1", 0.15),
                              (b"inf", math.inf), (b"-inf", -math.inf), (b"1e400", math.inf)]:
             for pieces in cuts(b"," + text + b"\r\n:1\r\n"):
                 self.assertEqual(replies(reader(protocol=3), pieces), [wanted, 1], text)
         for text in [b"abc", b"1_0", b" 12", b"12 ", b"1,5", b"", b".", b"-", b"1e", b"1e+", b"e1", b"0x1p3", b"infinity",
-                     b"1.5.2", b"\xc2\xb2", b"1\0"]:
+                     b"1.5.2", b".5", b"1.", b"-.5", b"+inf", b"+nan", b"nan(1)", b"\xc2\xb2", b"1\0"]:
             for given in (b":1\r\n," + text + b"\r\n:2\r\n", b":1\r\n*2\r\n," + text + b"\r\n:3\r\n:2\r\n"):
                 for pieces in cuts(given):
                     broken, said = reader(protocol=3), []
@@ -570,7 +627,7 @@ class Rows(unittest.TestCase):
 
         own = Own(protocol=3)
         own.feed(b">1\r\n:1\r\n+OK\r\n:7\r\n")
-        self.assertEqual([own.gets() for _ in range(4)], [[1], b"OK", 7, False])
+        self.assertEqual([own.gets() for _ in range(4)], [[1], b"OK", 7, resp.NO_REPLY])
         self.assertEqual(own.count, 4)
         own.self = own
         seen = weakref.ref(own)

@@ -10,6 +10,10 @@
 /* The most values whose memory is kept for the next reply. */
 #define MOST_VALUES 4096
 
+/* The most digits of a big number, and how many become a number at once. */
+#define MOST_DIGITS 65536
+#define DIGITS_AT_ONCE 4000
+
 /* Keeps code for rare cases out of the code that runs for each value. */
 #ifdef __GNUC__
 #define APART __attribute__((noinline))
@@ -39,7 +43,9 @@ enum reading { AS_BYTES, AS_UTF8, AS_ENCODED };
 
 /* The objects of a module. Each interpreter has a module of its own. */
 struct module {
-    PyObject *protocol_error, *reply_error, *push;
+    PyObject *protocol_error, *reply_error, *push, *pairs;
+    /* The object that gets returns in protocol 3 until a reply is complete. There False is a reply. */
+    PyObject *no_reply;
     /* The most frequent replies of redis-server: `OK` as bytes, and small integers. */
     PyObject *ok, *small[MOST_SMALL];
 };
@@ -65,8 +71,11 @@ struct values {
     PyObject *reply_error;
     char *encoding, *errors;
     enum reading reads, reads_now;
-    /* Whether sets become lists. Whether a double was no number: then no more replies are read. */
-    bool lists_sets, is_bad;
+    /* Whether sets become lists. */
+    bool lists_sets;
+    /* The name of the error of a double that is no number or of a big number that is too long, or NULL. After it no more
+     * replies are read. */
+    const char *bad;
 };
 
 /* Replaces a value by another. Steals the reference to the new one. */
@@ -162,24 +171,30 @@ static const char *digits(const char *at, const char *end) {
     return at;
 }
 
-/* Returns whether a text is a double: an optional sign, then `inf`, `nan`, or digits with an optional fraction and
- * exponent. Python's float() accepts more, such as `1_0` and spaces. */
+/* Returns whether a text is a double of the published grammar: an optional sign and digits, with an optional fraction and
+ * exponent, or `inf`, `-inf` or `nan`. `-nan` is one too: redis-server 7.0 writes it. Python's float() accepts more, such as
+ * `1_0`, `.5` and spaces. */
 static bool is_double(const char *at, const char *end) {
-    if (at < end && (*at == '+' || *at == '-'))
-        at++;
+    if (at < end && *at == '-' && (end - at == 4) && (!memcmp(at, "-inf", 4) || !memcmp(at, "-nan", 4)))
+        return true;
     if (end - at == 3 && (!memcmp(at, "inf", 3) || !memcmp(at, "nan", 3)))
         return true;
-    const char *whole = digits(at, end), *fraction = whole;
-    if (whole < end && *whole == '.')
-        fraction = digits(whole + 1, end);
-    /* There is a digit before the point or after it. */
-    if (whole == at && fraction <= whole + 1)
+    if (at < end && (*at == '+' || *at == '-'))
+        at++;
+    const char *whole = digits(at, end);
+    if (whole == at)
         return false;
-    at = fraction;
-    if (at == end)
+    if (whole < end && *whole == '.') {
+        at = whole + 1;
+        whole = digits(at, end);
+        if (whole == at)
+            return false;
+    }
+    if (whole == end)
         return true;
-    if (*at++ != 'e' && at[-1] != 'E')
+    if (*whole != 'e' && *whole != 'E')
         return false;
+    at = whole + 1;
     if (at < end && (*at == '+' || *at == '-'))
         at++;
     return at < end && digits(at, end) == end;
@@ -188,7 +203,7 @@ static bool is_double(const char *at, const char *end) {
 /* A text that is no double breaks the protocol: the reader raises the error once the reply has been read. */
 static PyObject *double_of(struct values *values, const char *start, Py_ssize_t length) {
     if (!is_double(start, start + length)) {
-        values->is_bad = true;
+        values->bad = "Syntax";
         return PyFloat_FromDouble(0);
     }
     PyObject *text = PyUnicode_DecodeUTF8(start, length, "strict");
@@ -197,12 +212,43 @@ static PyObject *double_of(struct values *values, const char *start, Py_ssize_t 
     return value;
 }
 
-static PyObject *big_of(const char *start, Py_ssize_t length, bool is_negative) {
-    PyObject *digits = length ? PyUnicode_FromStringAndSize(start, length) : PyUnicode_FromString("0");
+/* Returns the number of these digits. */
+static PyObject *int_of(const char *start, Py_ssize_t length) {
+    PyObject *digits = PyUnicode_FromStringAndSize(start, length);
     PyObject *value = digits ? PyObject_CallFunctionObjArgs((PyObject *)&PyLong_Type, digits, NULL) : NULL;
-    if (value && is_negative)
-        replace(&value, PyNumber_Negative(value));
     Py_XDECREF(digits);
+    return value;
+}
+
+/* Returns `value` with more digits behind its own: its product with a power of ten, and the number of these digits. Steals
+ * the reference to `value`. */
+static PyObject *with_digits(PyObject *value, const char *start, Py_ssize_t length) {
+    PyObject *ten = PyLong_FromLong(10), *exponent = PyLong_FromSsize_t(length);
+    PyObject *power = ten && exponent ? PyNumber_Power(ten, exponent, Py_None) : NULL;
+    PyObject *product = power ? PyNumber_Multiply(value, power) : NULL;
+    PyObject *more = product ? int_of(start, length) : NULL;
+    PyObject *sum = more ? PyNumber_Add(product, more) : NULL;
+    Py_XDECREF(ten);
+    Py_XDECREF(exponent);
+    Py_XDECREF(power);
+    Py_XDECREF(product);
+    Py_XDECREF(more);
+    Py_DECREF(value);
+    return sum;
+}
+
+/* Makes a big number. Python's int() accepts at most 4,300 digits at once, so a longer one is made from several. One over
+ * MOST_DIGITS would take long: it is refused once the reply has been read. */
+static PyObject *big_of(struct values *values, const char *start, Py_ssize_t length) {
+    if (length > MOST_DIGITS) {
+        values->bad = "Length";
+        return PyLong_FromLong(0);
+    }
+    PyObject *value = PyLong_FromLong(0);
+    for (Py_ssize_t at = 0; value && at < length; at += DIGITS_AT_ONCE)
+        value = with_digits(value, start + at, length - at < DIGITS_AT_ONCE ? length - at : DIGITS_AT_ONCE);
+    if (value && values->is_negative)
+        replace(&value, PyNumber_Negative(value));
     return value;
 }
 
@@ -212,7 +258,7 @@ static APART PyObject *other_of(struct values *values, uint32_t form, const char
     case RESP_TEXT_DOUBLE:
         return double_of(values, start, length);
     case RESP_TEXT_BIG:
-        return big_of(start, length, values->is_negative);
+        return big_of(values, start, length);
     default:
         return error_of(values, start, length);
     }
@@ -263,6 +309,7 @@ static PyObject *push_of(struct values *values, PyObject **members, size_t count
     return push;
 }
 
+/* Makes a set, or a list if two members are equal in Python, as 1 and True are: nothing is lost. */
 static PyObject *set_of(PyObject **members, size_t count) {
     PyObject *set = PySet_New(NULL);
     for (size_t at = 0; set && at < count; at++) {
@@ -271,17 +318,40 @@ static PyObject *set_of(PyObject **members, size_t count) {
             Py_CLEAR(set);
         Py_XDECREF(member);
     }
+    if (set && (size_t)PySet_Size(set) < count) {
+        Py_DECREF(set);
+        return list_of(members, count);
+    }
     let_go(members, count);
     return set;
 }
 
-static PyObject *dict_of(PyObject **members, size_t count) {
+/* Makes the list of the pairs of a map, of the type Pairs. */
+static PyObject *pairs_of(struct values *values, PyObject **members, size_t count) {
+    PyObject *list = PyList_New((Py_ssize_t)(count / 2));
+    for (size_t at = 0; list && at + 1 < count; at += 2) {
+        PyObject *pair = PyTuple_Pack(2, members[at], members[at + 1]);
+        if (!pair || PyList_SetItem(list, (Py_ssize_t)(at / 2), pair))
+            Py_CLEAR(list);
+    }
+    let_go(members, count);
+    PyObject *pairs = list ? PyObject_CallFunctionObjArgs(values->module->pairs, list, NULL) : NULL;
+    Py_XDECREF(list);
+    return pairs;
+}
+
+/* Makes a dict, or the list of the pairs if two keys are equal in Python: nothing is lost. */
+static PyObject *dict_of(struct values *values, PyObject **members, size_t count) {
     PyObject *dict = PyDict_New();
     for (size_t at = 0; dict && at + 1 < count; at += 2) {
         PyObject *key = hashable(members[at]);
         if (!key || PyDict_SetItem(dict, key, members[at + 1]))
             Py_CLEAR(dict);
         Py_XDECREF(key);
+    }
+    if (dict && (size_t)PyDict_Size(dict) < count / 2) {
+        Py_DECREF(dict);
+        return pairs_of(values, members, count);
     }
     let_go(members, count);
     return dict;
@@ -298,7 +368,7 @@ static PyObject *annotated(PyObject **members, size_t count) {
 static PyObject *aggregate_of(struct values *values, uint32_t form, PyObject **members, size_t count) {
     switch (form) {
     case RESP_MAP:
-        return dict_of(members, count);
+        return dict_of(values, members, count);
     case RESP_SET:
         return values->lists_sets ? list_of(members, count) : set_of(members, count);
     case RESP_PUSH:

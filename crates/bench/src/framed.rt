@@ -18,15 +18,15 @@ use futures::test::MockTask;
 use resp_client::client::Client;
 use resp_codec::{CodecError, CommandCodec, RespCodec};
 use resp_encode::EncodeError;
+use resp_io::device::{MemorySink, MemorySource};
 use resp_value::command::Command;
 use resp_value::content::Content;
-use resp_value::device::{MemorySink, MemorySource};
 use resp_value::limits::Limits;
 use resp_value::value::{Members, Value};
 use resp_value::version::Version;
 use resp_wire::ask::ask;
 use resp_wire::serve::serve;
-use resp_wire::{Asked, Request};
+use resp_wire::{Request, Responses};
 use std::alloc::{AllocError, Global};
 use tokio_util::codec::{Decoder, Encoder, FramedRead};
 
@@ -208,7 +208,7 @@ fn ask_all(
     let mut heard: usize = 0;
     let mut written: usize = 0;
     for _ in 0..pipelines {
-        let mut asked = Asked::new(alloc);
+        let mut asked = Responses::new(alloc);
         let mut reader = MemorySource::new(text, PIECE);
         let mut writer = MemorySink::new(alloc, PIECE, PIECE)?;
         ask(

@@ -9,7 +9,7 @@
 use crate::has;
 use crate::server::{BenchHub, Tally, new_hub, send_piece};
 use anyhow::Result;
-use resp_value::device::{MemorySink, MemorySource};
+use resp_io::device::{MemorySink, MemorySource};
 use resp_wire::serve::serve_with;
 use std::alloc::Global;
 

@@ -5,15 +5,12 @@
 use crate::texts::{ARRAY_3, BULK_16, BULK_1024, BULK_65536, INTEGER, LINE, MAP, SIMPLE, Text};
 use crate::{has, nanos};
 use anyhow::Result;
-use resp_reply::{Node, NodeKind, read};
+use resp_flat::{INT, Node, TEXT, read_in_place};
 use resp_value::limits::Limits;
 use resp_value::version::Version;
 
 /// The number of nodes of one call.
 const NODES: usize = 1_024;
-
-/// The bytes for the texts of one call.
-const TEXTS: usize = 65_536;
 
 /// The least length of a text. It fits a processor's cache.
 const LEAST: usize = 262_144;
@@ -45,9 +42,9 @@ impl Counts {
         for node in nodes {
             self.values = self.values.wrapping_add(1);
             match node.kind {
-                NodeKind::Int(number) => self.sum = self.sum.wrapping_add(number),
-                NodeKind::Text(_) => self.content = self.content.wrapping_add(node.length as u64),
-                NodeKind::Null | NodeKind::Bool(_) | NodeKind::Aggregate(_) => {}
+                INT => self.sum = self.sum.wrapping_add(node.number),
+                TEXT => self.content = self.content.wrapping_add(node.length as u64),
+                _ => {}
             }
         }
     }
@@ -55,24 +52,18 @@ impl Counts {
 
 /// Reads all replies of the text, and counts.
 #[inline(never)]
-fn read_text(
-    limits: &Limits,
-    text: &[u8],
-    nodes: &mut [Node],
-    texts: &mut [u8],
-    counts: &mut Counts,
-) {
+fn read_text(limits: &Limits, text: &[u8], nodes: &mut [Node], counts: &mut Counts) {
     let mut rest = text;
     for _ in 0..u64::MAX {
         if rest.is_empty() {
             return;
         }
-        let reading = read(Version::Three, limits, rest, nodes, texts);
-        if reading.used == 0 {
+        let read = read_in_place(Version::Three, limits, rest, nodes);
+        if read.used == 0 {
             return;
         }
-        counts.walk(nodes.get(..reading.nodes).unwrap_or_default());
-        rest = rest.get(reading.used..).unwrap_or_default();
+        counts.walk(nodes.get(..read.nodes).unwrap_or_default());
+        rest = rest.get(read.used..).unwrap_or_default();
     }
 }
 
@@ -81,11 +72,10 @@ fn run(rt: &HostRuntime, text: &Text, rounds: usize) -> Result<()> {
     let bytes = text.repeated(rt.alloc(), LEAST)?;
     let limits = Limits::standard();
     let mut nodes = vec![in rt.alloc(); Node::default(); NODES]?;
-    let mut texts = vec![in rt.alloc(); 0; TEXTS]?;
     let mut counts = Counts::default();
     let start = nanos(rt)?;
     for _ in 0..rounds {
-        read_text(&limits, &bytes, &mut nodes, &mut texts, &mut counts);
+        read_text(&limits, &bytes, &mut nodes, &mut counts);
     }
     let micros = nanos(rt)?.saturating_sub(start) / 1_000;
     println!(rt;

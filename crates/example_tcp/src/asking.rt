@@ -2,13 +2,13 @@
 
 use anyhow::{Result, bail};
 use resp_client::Client;
+use resp_io::device::Device;
 use resp_value::command::Command;
-use resp_value::device::Device;
 use resp_value::limits::Limits;
 use resp_value::value::Value;
 use resp_value::version::Version;
 use resp_wire::ask::ask;
-use resp_wire::{Asked, Request};
+use resp_wire::{Request, Responses};
 use std::alloc::Global;
 use std::net::TcpStream;
 
@@ -89,7 +89,7 @@ pub(crate) fn ask_server(net: &HostRuntime, alloc: Global, port: u16) -> Result<
     let stream = TcpStream::connect(net, ("127.0.0.1", port))?;
     stream.set_nodelay(true)?;
     let mut client = Client::new(alloc, &Limits::standard());
-    let mut received = Asked::new(alloc);
+    let mut received = Responses::new(alloc);
     ask(
         &mut Device::new(&stream),
         &mut Device::new(&stream),
@@ -102,7 +102,7 @@ pub(crate) fn ask_server(net: &HostRuntime, alloc: Global, port: u16) -> Result<
 }
 
 /// Returns the number of replies and of pushes, if each command has its reply.
-fn check(alloc: Global, received: &Asked) -> Result<(usize, usize)> {
+fn check(alloc: Global, received: &Responses) -> Result<(usize, usize)> {
     let count = received.replies.len();
     if count != COMMANDS {
         bail!("{count} replies to {COMMANDS} commands");

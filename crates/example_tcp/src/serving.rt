@@ -1,8 +1,8 @@
 //! A server that serves one connection after another.
 
 use anyhow::Result;
+use resp_io::device::Device;
 use resp_server::Hub;
-use resp_value::device::Device;
 use resp_value::limits::Limits;
 use resp_wire::serve::serve;
 use std::alloc::Global;

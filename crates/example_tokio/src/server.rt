@@ -4,7 +4,7 @@
 //! It shows how replies are made. `resp_server` is a server of the same commands with Redis's error
 //! replies.
 
-use resp_session::words::{Asked, Words};
+use resp_session::words::{Requested, Words};
 use resp_value::{Content, Line, Members, PairList, Value, Version};
 use std::alloc::{AllocError, Global};
 use std::collections::BTreeMap;
@@ -33,12 +33,12 @@ impl Server {
     pub(crate) fn answer(
         &mut self,
         alloc: Global,
-        asked: &Asked,
+        asked: &Requested,
     ) -> Result<Option<Value>, AllocError> {
         match asked {
-            Asked::Command(words) => Ok(Some(self.run(alloc, words)?)),
-            Asked::Nothing => Ok(None),
-            Asked::NoCommand => Ok(Some(error(alloc, b"ERR Protocol error")?)),
+            Requested::Command(words) => Ok(Some(self.run(alloc, words)?)),
+            Requested::Nothing => Ok(None),
+            Requested::NoCommand => Ok(Some(error(alloc, b"ERR Protocol error")?)),
         }
     }
 

@@ -1,19 +1,19 @@
 //! The command `ask`, which sends commands to a server.
 
-use crate::failures::{Failures, Faults, Input, Output};
-use crate::hints::write_hint;
+use crate::failures::{Failures, Faults, WatchedInput, WatchedOutput};
+use crate::hints::{write_hint, write_path_hint};
 use crate::hosts::{addresses_of, name_of, password_of, refuse_server};
 use crate::prompting::{Prompting, is_typed};
 use crate::server_stream::ServerStream;
-use resp_args::asking::Asking;
-use resp_args::tool_error::ToolError;
-use resp_ask::{Failure, Form, Greeting, Lines, RawCommands, Talk};
-use resp_print::live::LiveSink;
+use resp_cli_args::asking::Asking;
+use resp_cli_args::tool_error::ToolError;
+use resp_cli_ask::{ExchangeError, Failure, Greeting, InputLines, RawCommands, ReplyForm, Talk};
+use resp_io::device::{Device, DeviceFault, Sink, Source};
+use resp_io::live::LiveSink;
 use resp_print::text::{write_number, write_text};
-use resp_value::device::{Device, DeviceFault, Sink, Source};
 use std::alloc::{AllocError, Global};
 use std::io::{self, IsTerminal};
-use std::time::Instant;
+use std::time::{Duration, Instant};
 
 /// The exit status after a reply that is an error, or an error in the input.
 const ERROR: u8 = 1;
@@ -23,6 +23,9 @@ const BAD_ARGUMENTS: u8 = 2;
 
 /// The exit status after a device or an allocation failed.
 const FAILED: u8 = 3;
+
+/// The line for a reply that does not come in time.
+const NO_REPLY: &[u8] = b"read failed: no reply within the time of --timeout\n";
 
 /// Sends the command in the words, or the commands of standard input, and prints the replies.
 /// Returns the exit status.
@@ -60,15 +63,18 @@ fn ask_server<O: LiveSink>(
         Ok(addresses) => addresses,
         Err(error) => return refuse_server(alloc, &asking.server, &error, faults),
     };
-    let stream = match ServerStream::connect(rt, addresses.as_slice(), None) {
+    let timeout = timeout_of(asking);
+    let stream = match ServerStream::connect(rt, addresses.as_slice(), timeout) {
         Ok(stream) => stream,
         Err(error) => {
             let name = name_of(alloc, &asking.server)?;
-            return faults.refuse_connection(alloc, name.as_str(), &error);
+            let status = faults.refuse_connection(alloc, name.as_str(), &error)?;
+            let _ = write_path_hint(rt, &asking.server, &mut faults.lines);
+            return Ok(status);
         }
     };
-    let mut reader = Device::new(Input::new(&stream, faults.failures));
-    let mut writer = Device::new(Output::new(&stream, faults.failures));
+    let mut reader = Device::new(WatchedInput::new(&stream, faults.failures));
+    let mut writer = Device::new(WatchedOutput::new(&stream, faults.failures));
     ask_over(
         rt,
         asking,
@@ -78,6 +84,12 @@ fn ask_server<O: LiveSink>(
         output,
         faults,
     )
+}
+
+/// Returns the time that the server has for each reply, if there is a limit.
+fn timeout_of(asking: &Asking<'_>) -> Option<Duration> {
+    let micros = asking.options.timeout;
+    (micros > 0).then_some(Duration::from_micros(micros))
 }
 
 /// Sends the commands over an open connection, after AUTH and HELLO if the options ask for them.
@@ -108,6 +120,10 @@ fn ask_over<R: Source, W: Sink, O: LiveSink>(
         Ok(()) if errors == 0 => Ok(0),
         Ok(()) => Ok(ERROR),
         Err(failure) => {
+            if is_of_timeout(asking, &failure, faults.failures) {
+                let _ = write_text(&mut faults.lines, NO_REPLY);
+                return Ok(failure.status());
+            }
             let _ = failure.write(next_reply, &mut faults.lines);
             write_why(rt.alloc(), &failure, faults)?;
             Ok(failure.status())
@@ -115,19 +131,26 @@ fn ask_over<R: Source, W: Sink, O: LiveSink>(
     }
 }
 
+/// Returns whether a reply did not come within the time of `--timeout`.
+fn is_of_timeout(asking: &Asking<'_>, failure: &Failure, failures: &Failures) -> bool {
+    asking.options.timeout > 0
+        && matches!(failure, Failure::Ask(ExchangeError::Read))
+        && failures.is_late()
+}
+
 /// Returns how replies are printed. On a terminal, a text of several lines is printed as these
 /// lines. The replies to commands that a person types have no numbers.
-fn form_of(rt: &HostRuntime, asking: &Asking<'_>) -> Form {
+fn form_of(rt: &HostRuntime, asking: &Asking<'_>) -> ReplyForm {
     if asking.options.counts {
-        Form::Counted
+        ReplyForm::Counted
     } else if asking.options.style.json {
-        Form::Json
+        ReplyForm::Json
     } else if asking.words.is_empty() && !is_typed(rt, asking) {
-        Form::Numbered
+        ReplyForm::Numbered
     } else if rt.stdout().is_terminal() {
-        Form::Lined
+        ReplyForm::Lined
     } else {
-        Form::Alone
+        ReplyForm::Alone
     }
 }
 
@@ -153,7 +176,7 @@ fn ask_with<R: Source, W: Sink, O: LiveSink>(
     talk: &mut Talk<'_, R, W>,
     asking: &Asking<'_>,
     password: Option<&str>,
-    form: Form,
+    form: ReplyForm,
     failures: &Failures,
     output: &mut O,
 ) -> Result<(), Failure> {
@@ -162,9 +185,9 @@ fn ask_with<R: Source, W: Sink, O: LiveSink>(
         password,
         is_three: asking.options.is_three,
         form: if asking.options.style.json {
-            Form::Json
+            ReplyForm::Json
         } else {
-            Form::Alone
+            ReplyForm::Alone
         },
     };
     if !talk.greet(rt.alloc(), &greeting, output)? {
@@ -173,7 +196,7 @@ fn ask_with<R: Source, W: Sink, O: LiveSink>(
     talk.begin(form);
     let start = Instant::now(rt);
     send_commands(rt, talk, asking, failures, output)?;
-    if form != Form::Counted {
+    if form != ReplyForm::Counted {
         return Ok(());
     }
     let micros = micros_since(rt, start);
@@ -208,12 +231,18 @@ fn send_commands<R: Source, W: Sink, O: LiveSink>(
     if is_typed(rt, asking) {
         return send_typed(rt, talk, asking, failures, output);
     }
-    let mut input = Device::new(Input::new(rt.stdin(), failures));
+    let mut input = Device::new(WatchedInput::new(rt.stdin(), failures));
     if asking.options.raw {
         let mut commands = RawCommands::new(alloc, &asking.options.limits)?;
         return talk.send_input(alloc, &mut commands, &mut input, window, output);
     }
-    talk.send_input(alloc, &mut Lines::new(alloc), &mut input, window, output)
+    talk.send_input(
+        alloc,
+        &mut InputLines::new(alloc),
+        &mut input,
+        window,
+        output,
+    )
 }
 
 /// Sends the commands that a person types, with a prompt for each line. The error of a line that is
@@ -230,8 +259,8 @@ fn send_typed<R: Source, W: Sink, O: LiveSink>(
     let server = name_of(alloc, &asking.server)?;
     let prompt = format!(in alloc; "{server}> ")?;
     let typed = Prompting::new(rt.stdin(), rt.stdout(), prompt.as_str());
-    let mut input = Device::new(Input::new(typed, failures));
-    let mut lines = Lines::new(alloc);
+    let mut input = Device::new(WatchedInput::new(typed, failures));
+    let mut lines = InputLines::new(alloc);
     for _ in 0..u64::MAX {
         match talk.send_input(alloc, &mut lines, &mut input, window, output) {
             Err(failure) if failure.is_of_line() => {

@@ -1,19 +1,20 @@
 //! `resp proxy --check`, which asks a server for its commands and prints what the proxy would do with them.
 
 use crate::asking::write_why;
-use crate::failures::{Faults, Input, Output};
+use crate::failures::{Faults, WatchedInput, WatchedOutput};
+use crate::hints::write_path_hint;
 use crate::hosts::password_of;
 use crate::server_stream::ServerStream;
 use crate::survey::{Survey, SurveyError};
-use resp_args::proxying::Proxying;
-use resp_ask::talk::bytes_of;
-use resp_ask::{AskError, Failure};
+use resp_cli_args::proxying::Proxying;
+use resp_cli_ask::talk::bytes_of;
+use resp_cli_ask::{ExchangeError, Failure};
 use resp_client::{Client, What};
-use resp_loop::Address;
-use resp_print::live::LiveSink;
+use resp_io::device::{Device, DeviceFault, Sink, Source, write_all};
+use resp_io::live::LiveSink;
+use resp_net::Address;
 use resp_print::text::{write_quoted, write_text};
 use resp_value::command::Command;
-use resp_value::device::{Device, DeviceFault, Sink, Source, write_all};
 use resp_value::limits::Limits;
 use resp_value::value::Value;
 use std::alloc::{AllocError, Global};
@@ -22,30 +23,30 @@ use std::time::Duration;
 /// The exit status if the server has a command that the proxy does not know, or rejects AUTH or COMMAND.
 const UNKNOWN: u8 = 1;
 
-/// The most bytes of one read.
+/// The maximum number of bytes of one read.
 const PIECE: usize = 16_384;
 
-/// The most reads.
+/// The maximum number of reads.
 const MOST_READS: u64 = 4_000_000_000;
 
 /// Why there is no table.
 #[derive(Drop)]
 pub enum CheckError {
     /// The connection, the output or an allocation failed, or a reply is not valid.
-    Ask(AskError),
+    Ask(ExchangeError),
     /// The reply is an error, or not a list of commands.
     Reply(Value),
 }
 
-impl From<AskError> for CheckError {
-    fn from(error: AskError) -> Self {
+impl From<ExchangeError> for CheckError {
+    fn from(error: ExchangeError) -> Self {
         CheckError::Ask(error)
     }
 }
 
 impl From<AllocError> for CheckError {
     fn from(_: AllocError) -> Self {
-        CheckError::Ask(AskError::Memory)
+        CheckError::Ask(ExchangeError::Memory)
     }
 }
 
@@ -63,10 +64,14 @@ pub fn run_check<O: LiveSink>(
     let timeout = Duration::from_micros(proxying.options.times.server_timeout);
     let stream = match ServerStream::connect(rt, addresses, Some(timeout)) {
         Ok(stream) => stream,
-        Err(error) => return faults.refuse_connection(alloc, server, &error),
+        Err(error) => {
+            let status = faults.refuse_connection(alloc, server, &error)?;
+            let _ = write_path_hint(rt, &proxying.server, &mut faults.lines);
+            return Ok(status);
+        }
     };
-    let mut reader = Device::new(Input::new(&stream, faults.failures));
-    let mut writer = Device::new(Output::new(&stream, faults.failures));
+    let mut reader = Device::new(WatchedInput::new(&stream, faults.failures));
+    let mut writer = Device::new(WatchedOutput::new(&stream, faults.failures));
     let password = password_of(rt);
     let checked = check(
         alloc,
@@ -98,6 +103,10 @@ fn refuse(
         }
         CheckError::Ask(error) => {
             let failure = Failure::Ask(error);
+            if failure.is_of_read() && faults.failures.is_late() {
+                let _ = write_no_reply(server, &mut faults.lines);
+                return Ok(failure.status());
+            }
             let _ = failure.write(1, &mut faults.lines);
             write_why(alloc, &failure, faults)?;
             Ok(failure.status())
@@ -169,7 +178,7 @@ fn survey_of(alloc: Global, reply: Value, proxying: &Proxying<'_>) -> Result<Sur
         Err(SurveyError::NoList) => Err(CheckError::Reply(reply)),
         Err(SurveyError::Memory) => {
             drop(reply);
-            Err(AskError::Memory.into())
+            Err(ExchangeError::Memory.into())
         }
     }
 }
@@ -189,7 +198,7 @@ fn print<O: Sink>(
     match printed {
         Ok(()) if survey.has_unknown() => Ok(UNKNOWN),
         Ok(()) => Ok(0),
-        Err(_) => Err(AskError::Output.into()),
+        Err(_) => Err(ExchangeError::Output.into()),
     }
 }
 
@@ -200,15 +209,15 @@ fn ask<R: Source, W: Sink>(
     words: &[&str],
     reader: &mut R,
     writer: &mut W,
-) -> Result<Value, AskError> {
+) -> Result<Value, ExchangeError> {
     let Ok(command) = Command::new(bytes_of(alloc, words)?) else {
-        return Err(AskError::Memory);
+        return Err(ExchangeError::Memory);
     };
     if let Err(error) = client.send(&command) {
-        return Err(AskError::Refused(error));
+        return Err(ExchangeError::Refused(error));
     }
     if write_all(writer, client.out()).is_err() {
-        return Err(AskError::Write);
+        return Err(ExchangeError::Write);
     }
     let length = client.out().len();
     client.sent(length);
@@ -220,12 +229,12 @@ fn read_reply<R: Source>(
     client: &mut Client,
     reader: &mut R,
     buffer: &mut [u8],
-) -> Result<Value, AskError> {
+) -> Result<Value, ExchangeError> {
     for _ in 0..MOST_READS {
         let count = match reader.read(buffer) {
-            Ok(0) => return Err(AskError::Ended),
+            Ok(0) => return Err(ExchangeError::Ended),
             Ok(count) => count,
-            Err(_) => return Err(AskError::Read),
+            Err(_) => return Err(ExchangeError::Read),
         };
         let mut rest = &buffer[..count];
         for _ in 0..count {
@@ -234,7 +243,7 @@ fn read_reply<R: Source>(
             }
             let heard = match client.feed(rest) {
                 Ok(heard) => heard,
-                Err(fault) => return Err(AskError::Fault(fault)),
+                Err(fault) => return Err(ExchangeError::Fault(fault)),
             };
             rest = &rest[heard.used..];
             match heard.what {
@@ -243,7 +252,13 @@ fn read_reply<R: Source>(
             }
         }
     }
-    Err(AskError::TooManyTurns)
+    Err(ExchangeError::TooManyTurns)
+}
+
+/// Writes that the server did not reply in time.
+fn write_no_reply<F: Sink>(server: &str, faults: &mut F) -> Result<(), DeviceFault> {
+    write_text(faults, server.as_bytes())?;
+    write_text(faults, b": no reply within the time of --server-timeout\n")
 }
 
 /// Writes that a reply is an error, or no list of commands.

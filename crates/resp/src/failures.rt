@@ -1,10 +1,11 @@
 //! The devices of the program, why the last of their calls that failed did so, and the error messages.
 
-use resp_args::tool_error::ToolError;
-use resp_args::words::{refuse_connection, refuse_file};
+use resp_cli_args::tool_error::ToolError;
+use resp_cli_args::words::{refuse_connection, refuse_file};
+use resp_cli_stream::explain::write_system_reason;
+use resp_io::device::{DeviceFault, MemorySink};
+use resp_net::cause_of;
 use resp_print::text::write_text;
-use resp_tool::explain::write_system_reason;
-use resp_value::device::{DeviceFault, MemorySink};
 use std::alloc::{AllocError, Global};
 use std::cell::Cell;
 use std::io;
@@ -41,6 +42,14 @@ impl Failures {
     /// Returns whether errors are explained.
     pub fn explains(&self) -> bool {
         self.explains.get()
+    }
+
+    /// Returns whether the last read failed because nothing came in its time.
+    pub fn is_late(&self) -> bool {
+        match self.read.get() {
+            Some(error) => matches!(error.kind(), ErrorKind::WouldBlock | ErrorKind::TimedOut),
+            None => false,
+        }
     }
 
     /// Returns whether the reader of the output has closed it.
@@ -90,7 +99,7 @@ impl<'a> Faults<'a> {
         name: &str,
         error: &io::Error,
     ) -> Result<u8, AllocError> {
-        let why = format!(in alloc; "{error}")?;
+        let why = reason_of(alloc, error)?;
         Ok(refuse_file(name, why.as_str(), &mut self.lines))
     }
 
@@ -101,10 +110,7 @@ impl<'a> Faults<'a> {
         server: &str,
         error: &io::Error,
     ) -> Result<u8, AllocError> {
-        let why = match short_reason(error.kind()) {
-            Some(reason) => format!(in alloc; "{reason}")?,
-            None => format!(in alloc; "{error}")?,
-        };
+        let why = reason_of(alloc, error)?;
         Ok(refuse_connection(server, why.as_str(), &mut self.lines))
     }
 
@@ -121,32 +127,27 @@ impl<'a> Faults<'a> {
     }
 }
 
-/// Returns the reason for the usual failures of a connection, or `None` for others.
-fn short_reason(kind: ErrorKind) -> Option<&'static str> {
-    match kind {
-        ErrorKind::ConnectionRefused => Some("connection refused"),
-        ErrorKind::NotFound => Some("no such file or directory"),
-        ErrorKind::PermissionDenied => Some("permission denied"),
-        ErrorKind::TimedOut => Some("timed out"),
-        _ => None,
-    }
+/// Returns why something cannot be opened.
+pub fn reason_of(alloc: Global, error: &io::Error) -> Result<String, AllocError> {
+    let cause = cause_of(error);
+    format!(in alloc; "{cause}")
 }
 
 /// A reader that records why a read failed.
 #[derive(Drop)]
-pub struct Input<'a, R> {
+pub struct WatchedInput<'a, R> {
     inner: R,
     failures: &'a Failures,
 }
 
-impl<'a, R> Input<'a, R> {
+impl<'a, R> WatchedInput<'a, R> {
     /// Makes a reader over `inner`.
     pub fn new(inner: R, failures: &'a Failures) -> Self {
-        Input { inner, failures }
+        WatchedInput { inner, failures }
     }
 }
 
-impl<R: Read> Read for Input<'_, R> {
+impl<R: Read> Read for WatchedInput<'_, R> {
     fn read(&mut self, into: &mut [u8]) -> io::Result<usize> {
         let result = self.inner.read(into);
         if let Err(error) = &result {
@@ -158,19 +159,19 @@ impl<R: Read> Read for Input<'_, R> {
 
 /// A writer that records why a write failed.
 #[derive(Drop)]
-pub struct Output<'a, W> {
+pub struct WatchedOutput<'a, W> {
     inner: W,
     failures: &'a Failures,
 }
 
-impl<'a, W> Output<'a, W> {
+impl<'a, W> WatchedOutput<'a, W> {
     /// Makes a writer over `inner`.
     pub fn new(inner: W, failures: &'a Failures) -> Self {
-        Output { inner, failures }
+        WatchedOutput { inner, failures }
     }
 }
 
-impl<W: Write> Write for Output<'_, W> {
+impl<W: Write> Write for WatchedOutput<'_, W> {
     fn write(&mut self, from: &[u8]) -> io::Result<usize> {
         let result = self.inner.write(from);
         if let Err(error) = &result {
@@ -188,14 +189,14 @@ impl<W: Write> Write for Output<'_, W> {
 /// it.
 #[derive(Drop)]
 pub struct StandardOutput<'a, W> {
-    output: Output<'a, W>,
+    output: WatchedOutput<'a, W>,
 }
 
 impl<'a, W> StandardOutput<'a, W> {
     /// Makes a writer over `inner`.
     pub fn new(inner: W, failures: &'a Failures) -> Self {
         StandardOutput {
-            output: Output::new(inner, failures),
+            output: WatchedOutput::new(inner, failures),
         }
     }
 }

@@ -1,20 +1,23 @@
-//! Hints for a person whose words of `ask` are probably not the ones that were meant.
+//! Hints for a user whose words are probably not the intended ones.
 
-use resp_args::asking::Asking;
+use resp_cli_args::asking::Asking;
+use resp_cli_args::server_address::ServerAddress;
 use resp_commands::entry;
+use resp_io::device::{DeviceFault, Sink};
 use resp_print::text::write_text;
-use resp_value::device::{DeviceFault, Sink};
+use std::fs::metadata;
 
-/// What the words of `ask` probably lack.
+/// What is probably missing from the words of `ask`.
 #[derive(Clone, Copy)]
 enum Lack<'a> {
-    /// The address of the server: the name of a command stands in its place.
+    /// The address of the server: the name of a command is in its place.
     Server(&'a str),
     /// A colon between the host and the port.
     Colon { host: &'a str, port: &'a str },
 }
 
-/// Writes below the line of an error what the words of `ask` probably lack, if they look so.
+/// Writes below the line of an error what is probably missing from the words of `ask`, if they look
+/// incomplete.
 pub fn write_hint<F: Sink>(asking: &Asking<'_>, faults: &mut F) -> Result<(), DeviceFault> {
     match lack_of(asking) {
         None => Ok(()),
@@ -39,7 +42,43 @@ pub fn write_hint<F: Sink>(asking: &Asking<'_>, faults: &mut F) -> Result<(), De
     }
 }
 
-/// Returns what the words of `ask` probably lack, or `None` if they look complete.
+/// Writes below the line of an error what is at the path of a server, if that is no socket.
+pub fn write_path_hint<F: Sink>(
+    rt: &HostRuntime,
+    server: &ServerAddress<'_>,
+    faults: &mut F,
+) -> Result<(), DeviceFault> {
+    let ServerAddress::Path(path) = *server else {
+        return Ok(());
+    };
+    match metadata(rt, path) {
+        Ok(found) if found.is_dir() => {
+            write_text(faults, b"  this path is a directory, not a Unix socket\n")
+        }
+        Ok(found) if found.is_file() => {
+            write_text(faults, b"  this path is a file, not a Unix socket\n")
+        }
+        _ => Ok(()),
+    }
+}
+
+/// Writes below the line of a file that does not exist which commands connect to a server, if the name of
+/// the file looks like the address of one.
+pub fn write_file_hint<F: Sink>(name: &str, faults: &mut F) -> Result<(), DeviceFault> {
+    let port = match name.rsplit_once(':') {
+        Some((_, port)) => port,
+        None => name,
+    };
+    if !is_port(port) {
+        return Ok(());
+    }
+    write_text(
+        faults,
+        b"  this command reads a file or standard input; ask and tap connect to a server\n",
+    )
+}
+
+/// Returns what is probably missing from the words of `ask`, or `None` if they look complete.
 fn lack_of<'a>(asking: &Asking<'a>) -> Option<Lack<'a>> {
     let server = asking.server_text;
     if entry(server.as_bytes()).is_some() {

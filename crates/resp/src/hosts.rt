@@ -1,10 +1,10 @@
 //! The addresses of listeners and of servers, which may be given by the name of a host.
 
-use crate::failures::Faults;
-use resp_args::listen_address::ListenAddress;
-use resp_args::server_address::ServerAddress;
-use resp_args::words::refuse_host;
-use resp_loop::{Address, Backend};
+use crate::failures::{Faults, reason_of};
+use resp_cli_args::listen_address::ListenAddress;
+use resp_cli_args::server_address::ServerAddress;
+use resp_cli_args::words::refuse_host;
+use resp_net::{Address, Backend};
 use std::alloc::{AllocError, Global};
 use std::net::{Net, ToSocketAddrs};
 use std::{env, io};
@@ -116,7 +116,7 @@ pub fn refuse_server(
     error: &io::Error,
     faults: &mut Faults<'_>,
 ) -> Result<u8, AllocError> {
-    let why = format!(in alloc; "{error}")?;
+    let why = reason_of(alloc, error)?;
     let host = match server {
         ServerAddress::Socket(address) => format!(in alloc; "{address}")?,
         ServerAddress::Named { host, .. } => format!(in alloc; "{host}")?,

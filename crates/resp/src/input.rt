@@ -1,9 +1,9 @@
 //! Reads the script of `loop` from the input. If a script is too long, only the part that decides
 //! the error is kept.
 
-use resp_args::tool_error::ToolError;
-use resp_script::script::MOST_BYTES;
-use resp_value::device::Source;
+use resp_cli_args::tool_error::ToolError;
+use resp_cli_loop::script::MOST_BYTES;
+use resp_io::device::Source;
 use std::alloc::Global;
 
 /// The greatest number of reads of the input, the same as for a stream.
@@ -14,7 +14,7 @@ const CLIENTS: &[u8] = b"clients";
 
 /// A search for a line with the first word `clients`, in pieces of any size.
 #[derive(Drop)]
-struct Search {
+struct ClientsSearch {
     /// The number of bytes of the word that the line has so far, or `None` if the line begins with
     /// another word.
     matched: Option<usize>,
@@ -22,7 +22,7 @@ struct Search {
     is_found: bool,
 }
 
-impl Search {
+impl ClientsSearch {
     /// Searches a piece.
     fn look_in(&mut self, piece: &[u8]) {
         for byte in piece {
@@ -53,7 +53,7 @@ impl Search {
 /// A failed read, too many reads, or an allocation that fails.
 pub fn read_input<R: Source>(alloc: Global, reader: &mut R) -> Result<Vec<u8>, ToolError> {
     let mut bytes = Vec::new(alloc);
-    let mut search = Search {
+    let mut search = ClientsSearch {
         matched: Some(0),
         is_found: false,
     };

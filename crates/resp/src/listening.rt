@@ -3,28 +3,31 @@
 use crate::checking::run_check;
 use crate::failures::Faults;
 use crate::hosts::{addresses_of, backend_of, listening_on, name_of, password_of, refuse_server};
-use crate::learning::learn;
+use crate::learning::Learning;
 use crate::most_clients::{SERVE, TAP, descriptors_of_proxy, most_clients};
 use crate::replaying::run_replay;
 use crate::style::style_of;
-use resp_args::duration::duration_of;
-use resp_args::proxying::{ProxyOptions, Proxying};
-use resp_args::serving::Serving;
-use resp_args::tapping::{FilterOptions, StatsOptions, Tapping};
-use resp_args::tool_error::ToolError;
-use resp_args::traffic::{Route, Traffic};
-use resp_args::words::stop;
+use crate::swapped::write_order_hint;
+use resp_cli_args::duration::duration_of;
+use resp_cli_args::listen_address::ListenAddress;
+use resp_cli_args::proxying::{ProxyOptions, Proxying};
+use resp_cli_args::server_address::ServerAddress;
+use resp_cli_args::serving::Serving;
+use resp_cli_args::tapping::{FilterOptions, StatsOptions, Tapping};
+use resp_cli_args::tool_error::ToolError;
+use resp_cli_args::traffic::{Route, Traffic};
+use resp_cli_args::words::stop;
 use resp_commands::entry;
-use resp_loop::{Address, Backend};
+use resp_io::device::Sink;
+use resp_io::live::LiveSink;
+use resp_net::{Address, Backend};
 use resp_paint::{Painted, Style};
-use resp_print::live::LiveSink;
 use resp_print::text::write_text;
-use resp_relay::{ProxyServer, ProxySettings};
-use resp_serve::{Server, Store, StoreServer, TestServer};
+use resp_proxy_net::{ProxyServer, ProxySettings};
+use resp_server_net::{Server, ServerSettings, Store, StoreServer, TestServer};
 use resp_tap::Filter;
 use resp_tap::json_line::write_listening_json;
-use resp_value::device::Sink;
-use resp_window::{AfterFailure, Settings, Tables, Window};
+use resp_tap_net::{AfterFailure, Tables, TapSettings, Window};
 use std::alloc::{AllocError, Global};
 use std::hash::RandomState;
 use std::io::{self, ErrorKind, Write};
@@ -87,7 +90,7 @@ pub fn run_serve<W: LiveSink>(
     }
 }
 
-/// Serves clients until that fails. A server for tests has 16 databases.
+/// Serves clients until that fails, or until the server has drained. A server for tests has 16 databases.
 fn serve<W: LiveSink>(
     rt: &HostRuntime,
     serving: &Serving<'_>,
@@ -97,29 +100,33 @@ fn serve<W: LiveSink>(
     let Ok(hasher) = RandomState::new(rt) else {
         return Err(ToolError::Read.into());
     };
-    let most = most_clients(rt, serving.clients, SERVE);
+    let settings = ServerSettings {
+        limits: serving.limits,
+        most: most_clients(rt, serving.clients, SERVE),
+        held: serving.held,
+        drain_timeout: Duration::from_micros(serving.drain_timeout),
+    };
     let address = listening_on(alloc, &serving.address)?;
-    let (limits, held) = (serving.limits, serving.held);
     if serving.is_test_server {
-        let mut server = TestServer::listen(rt, alloc, &address, limits, most, held, hasher)?;
-        let ended = run_server(alloc, &mut server, writer);
+        let mut server = TestServer::listen(rt, alloc, &address, settings, hasher)?;
+        let ended = run_server(rt, &mut server, writer);
         drop(server);
         return ended;
     }
-    let mut server = Server::listen(rt, alloc, &address, limits, most, held, hasher)?;
-    let ended = run_server(alloc, &mut server, writer);
+    let mut server = Server::listen(rt, alloc, &address, settings, hasher)?;
+    let ended = run_server(rt, &mut server, writer);
     drop(server);
     ended
 }
 
 /// Shows the address of a server, and runs it.
 fn run_server<C: Drop, T: Store<C> + Drop, W: LiveSink>(
-    alloc: Global,
+    rt: &HostRuntime,
     server: &mut StoreServer<C, T>,
     writer: &mut W,
 ) -> Result<(), ListenError> {
-    announce(alloc, &server.address()?, writer)?;
-    Ok(server.run()?)
+    announce(rt.alloc(), &server.address()?, writer)?;
+    Ok(server.run(rt)?)
 }
 
 /// Runs the tap between clients and the server in the words. Returns the status when it has ended.
@@ -170,7 +177,11 @@ fn run_window<W: LiveSink>(
         Err(ListenError::File(error)) => {
             faults.refuse_opening(rt.alloc(), route.record.unwrap_or(""), &error)
         }
-        Err(error) => refuse(rt.alloc(), route.address_text, &error, faults),
+        Err(error) => {
+            let status = refuse(rt.alloc(), route.address_text, &error, faults)?;
+            tell_order(rt, &route.address, &route.server, &error, faults)?;
+            Ok(status)
+        }
     }
 }
 
@@ -204,6 +215,11 @@ pub fn tables_of(stats: StatsOptions) -> Option<Tables> {
         return Some(Tables::Every(Duration::from_micros(stats.every)));
     }
     stats.is_on.then_some(Tables::AtEnd)
+}
+
+/// Returns whether `tap` prints times. `is_slow` says whether it prints only slow commands.
+pub fn tells_time(tapping: &Tapping<'_>, is_slow: bool) -> bool {
+    tapping.tells_time || tapping.tells_date || is_slow || tapping.style.json
 }
 
 /// Returns what the words ask for after a failed write. `--exit-with-output` has precedence.
@@ -246,11 +262,13 @@ fn settings_of_window(
     tapping: &Tapping<'_>,
     is_slow: bool,
     style: Style,
-) -> Settings {
-    Settings {
+) -> TapSettings {
+    TapSettings {
         limits: tapping.limits,
         most: most_clients(rt, tapping.clients, TAP),
-        tells_time: tapping.tells_time || is_slow || tapping.style.json,
+        drain_timeout: Duration::from_micros(tapping.drain_timeout),
+        tells_time: tells_time(tapping, is_slow),
+        tells_date: tapping.tells_date,
         after_failure: after_failure(tapping),
         reads_lines: !tapping.refuses_lines,
         shows_passwords: tapping.shows_passwords,
@@ -280,8 +298,9 @@ fn watch<W: LiveSink>(
         Err(error) if error.kind() == ErrorKind::WriteZero => Err(ToolError::Write.into()),
         Err(error) if error.kind() == ErrorKind::Interrupted => Ok(0),
         Err(error) => Err(error.into()),
-        // It ends this way only after a write has failed, which was reported then.
-        Ok(()) => Ok(DEVICE_FAILED),
+        // The failed write was reported then.
+        Ok(()) if window.is_silent() => Ok(DEVICE_FAILED),
+        Ok(()) => Ok(0),
     }
 }
 
@@ -310,7 +329,11 @@ pub fn run_proxy<W: LiveSink>(
     let backend = backend_of(rt, &proxying.server)?;
     match proxy(rt, proxying, backend, writer) {
         Ok(()) => Ok(0),
-        Err(error) => refuse(rt.alloc(), proxying.address_text, &error, faults),
+        Err(error) => {
+            let status = refuse(rt.alloc(), proxying.address_text, &error, faults)?;
+            tell_order(rt, &proxying.address, &proxying.server, &error, faults)?;
+            Ok(status)
+        }
     }
 }
 
@@ -365,15 +388,14 @@ fn share<W: LiveSink>(
     if admit(server, proxying.also).is_err() {
         return Err(ToolError::Memory.into());
     }
-    if proxying.learns {
-        learn(rt, proxying, server)?;
-    }
+    let mut learning = Learning::new(rt, proxying);
+    learning.begin(server)?;
     match announce(rt.alloc(), &server.address()?, writer) {
         // The proxy serves clients although nobody reads its output.
         Ok(()) | Err(ToolError::Write) => {}
         Err(error) => return Err(error.into()),
     }
-    Ok(server.run(rt, rt.stdin(), writer)?)
+    Ok(server.run(rt, rt.stdin(), writer, learning)?)
 }
 
 /// Prints on standard error the names, between commas, that the table of commands has.
@@ -486,5 +508,19 @@ fn refuse(
             faults.refuse_opening(alloc, address, error)
         }
         ListenError::Tool(error) => Ok(stop(error, &mut faults.lines)),
+    }
+}
+
+/// Writes below the line of an error that the addresses may be swapped, if they seem to be.
+fn tell_order(
+    rt: &HostRuntime,
+    listen: &ListenAddress<'_>,
+    server: &ServerAddress<'_>,
+    error: &ListenError,
+    faults: &mut Faults<'_>,
+) -> Result<(), AllocError> {
+    match error {
+        ListenError::Address(error) => write_order_hint(rt, listen, server, error, faults),
+        _ => Ok(()),
     }
 }

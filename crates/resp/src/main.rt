@@ -1,5 +1,5 @@
 //! The program `resp`. It shows, checks and rewrites streams of the Redis wire protocol, plays
-//! scripts of several clients of one server, serves clients, prints what passes between clients and
+//! scripts of several clients of one server, serves clients, prints the traffic between clients and
 //! a server, and shares one connection to a server among many clients.
 #![tactic(auto)]
 
@@ -18,33 +18,35 @@ mod replaying;
 mod server_stream;
 mod style;
 mod survey;
+mod swapped;
 
 ghost use Rattle.std.specs.Prelude.{◌≤◌};
 
 use asking::run_ask;
-use failures::{Failures, Faults, Input, StandardOutput};
+use failures::{Failures, Faults, StandardOutput, WatchedInput};
+use hints::write_file_hint;
 use input::read_input;
 use listening::{run_proxy, run_serve, run_tap};
 use opening::{open_file, tell_waiting};
-use resp_args::asked::Asked;
-use resp_args::options::{Options, STANDARD_INPUT, Task};
-use resp_args::style::StyleOptions;
-use resp_args::tool_error::ToolError;
-use resp_args::words::{read_words, refuse_words, stop};
+use resp_cli_args::asked::Invocation;
+use resp_cli_args::options::{Options, STANDARD_INPUT, Task};
+use resp_cli_args::style::StyleOptions;
+use resp_cli_args::tool_error::ToolError;
+use resp_cli_args::words::{read_words, refuse_words, stop};
+use resp_cli_loop::play::{PlayError, play, write_no_connection};
+use resp_cli_loop::script::{Script, read_script};
+use resp_cli_stream::command_line::{perform, run_options};
+use resp_cli_stream::explain::explain;
+use resp_cli_stream::watched::PlacedSource;
+use resp_io::device::{Device, Sink};
+use resp_io::live::{Gathering, LiveSink, LiveSource};
 use resp_paint::Painted;
-use resp_print::live::{Gathering, LiveSink, LiveSource};
-use resp_script::play::{PlayError, play, write_no_connection};
-use resp_script::script::{Script, read_script};
-use resp_tool::command_line::{perform, run_options};
-use resp_tool::explain::explain;
-use resp_tool::watched::Watched;
-use resp_value::device::{Device, Sink};
 use resp_value::limits::Limits;
 use resp_wire::{TcpLink, World};
 use std::alloc::{AllocError, Global};
 use std::env;
 use std::hash::RandomState;
-use std::io::{self, IsTerminal, Read, Write};
+use std::io::{self, ErrorKind, IsTerminal, Read, Write};
 use std::process::ExitCode;
 use style::style_of;
 
@@ -131,7 +133,7 @@ fn run_words<W: LiveSink>(
 ) -> Result<u8, AllocError> {
     let failures = faults.failures;
     match read_words(rt.alloc(), words, writer, &mut faults.lines) {
-        Ok(Asked::Stream(options)) => {
+        Ok(Invocation::Stream(options)) => {
             if options.task == Task::Show && !set_style(rt, &options.style, writer, faults) {
                 return Ok(BAD_ARGUMENTS);
             }
@@ -139,7 +141,7 @@ fn run_words<W: LiveSink>(
             run_task(rt, &options, writer, faults)
         }
         Ok(
-            Asked::Play {
+            Invocation::Play {
                 explains,
                 never_explains,
                 file,
@@ -148,10 +150,10 @@ fn run_words<W: LiveSink>(
             failures.set_explains(is_explained(rt, explains, never_explains));
             run_script(rt, file, writer, faults)
         }
-        Ok(Asked::Serve(serving)) => run_serve(rt, &serving, writer, faults),
-        Ok(Asked::Tap(tapping)) => run_tap(rt, &tapping, writer, faults),
-        Ok(Asked::Proxy(proxying)) => run_proxy(rt, &proxying, writer, faults),
-        Ok(Asked::Ask(asking)) => {
+        Ok(Invocation::Serve(serving)) => run_serve(rt, &serving, writer, faults),
+        Ok(Invocation::Tap(tapping)) => run_tap(rt, &tapping, writer, faults),
+        Ok(Invocation::Proxy(proxying)) => run_proxy(rt, &proxying, writer, faults),
+        Ok(Invocation::Ask(asking)) => {
             if !set_style(rt, &asking.options.style, writer, faults) {
                 return Ok(BAD_ARGUMENTS);
             }
@@ -192,7 +194,13 @@ fn run_task<W: LiveSink>(
     }
     match open_file(rt, options.file) {
         Ok(file) => run_stream(alloc, options, file, writer, faults),
-        Err(error) => faults.refuse_opening(alloc, options.file, &error),
+        Err(error) => {
+            let status = faults.refuse_opening(alloc, options.file, &error)?;
+            if error.kind() == ErrorKind::NotFound {
+                let _ = write_file_hint(options.file, &mut faults.lines);
+            }
+            Ok(status)
+        }
     }
 }
 
@@ -213,11 +221,11 @@ fn run_stream<R: Read + Drop, W: LiveSink>(
 ) -> Result<u8, AllocError>
     requires { (1 ≤ options.now.piece) × (options.now.piece ≤ 65536) }
 {
-    let mut reader = Device::new(Input::new(stream, faults.failures));
+    let mut reader = Device::new(WatchedInput::new(stream, faults.failures));
     if !faults.failures.explains() {
         return Ok(run_options(alloc, options, &mut reader, writer, &mut faults.lines));
     }
-    let mut watched = Watched::new(alloc, reader, options.version, &options.limits);
+    let mut watched = PlacedSource::new(alloc, reader, options.version, &options.limits);
     let done = run_watched(alloc, options, &mut watched, writer, faults);
     drop(watched);
     done
@@ -228,7 +236,7 @@ fn run_stream<R: Read + Drop, W: LiveSink>(
 fn run_watched<R: LiveSource<W>, W: LiveSink>(
     alloc: Global,
     options: &Options<'_>,
-    watched: &mut Watched<R>,
+    watched: &mut PlacedSource<R>,
     writer: &mut W,
     faults: &mut Faults<'_>,
 ) -> Result<u8, AllocError>
@@ -262,8 +270,8 @@ fn run_script<W: Sink>(
     }
 }
 
-/// Plays the script in the input over TCP and returns the status. If requested, prints after the
-/// line of a bad line why it is bad.
+/// Plays the script in the input over TCP and returns the status. If requested, explains after the
+/// error why the line is bad.
 fn run_loop<R: Read + Drop, W: Sink>(
     rt: &HostRuntime,
     input: R,
@@ -271,7 +279,10 @@ fn run_loop<R: Read + Drop, W: Sink>(
     faults: &mut Faults<'_>,
 ) -> Result<u8, AllocError> {
     let alloc = rt.alloc();
-    let bytes = match read_input(alloc, &mut Device::new(Input::new(input, faults.failures))) {
+    let bytes = match read_input(
+        alloc,
+        &mut Device::new(WatchedInput::new(input, faults.failures)),
+    ) {
         Ok(bytes) => bytes,
         Err(error) => {
             let status = stop(&error, &mut faults.lines);
@@ -355,8 +366,8 @@ fn play_in<W: Sink>(
     }
 }
 
-/// Writes the line of a connection of the loop that cannot be opened, and the reason if that is
-/// asked for. Returns the exit status.
+/// Writes the error for a connection of `loop` that cannot be opened, and the reason if requested.
+/// Returns the exit status.
 fn refuse_connection(
     alloc: Global,
     client: u64,

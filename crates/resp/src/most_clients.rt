@@ -1,7 +1,7 @@
-//! The most clients at once of `serve`, `tap` and `proxy`.
+//! The maximum number of clients at once of `serve`, `tap` and `proxy`.
 
-use resp_args::proxying::ProxyOptions;
-use resp_loop::descriptors::{Descriptors, MOST_CLIENTS, limit};
+use resp_cli_args::proxying::ProxyOptions;
+use resp_net::descriptors::{Descriptors, MOST_CLIENTS, limit};
 use std::io::Write;
 
 /// The descriptors of `serve`: the standard streams, the listener, its poll, and a client that is
@@ -18,8 +18,8 @@ pub const TAP: Descriptors = Descriptors {
     second: u32::MAX,
 };
 
-/// The descriptors of `proxy` without connections to the server: those of `serve`, standard output and
-/// standard error opened anew, each with a poll, and a spare one.
+/// The descriptors of `proxy` without connections to the server: those of `serve`, reopened
+/// standard output and standard error, each with a poll, and a spare one.
 const PROXY: u32 = 11;
 
 /// Returns the descriptors of `proxy`. Clients share some connections to the server, and some clients
@@ -32,9 +32,9 @@ pub fn descriptors_of_proxy(options: &ProxyOptions) -> Descriptors {
     }
 }
 
-/// Returns the most clients at once: the number that is given, or as many as the limit of file
-/// descriptors allows. If this limit is too low for the number that is given, says so on standard
-/// error.
+/// Returns the maximum number of clients at once: the number that is given, or as many as the limit
+/// of file descriptors allows. If this limit is too low for the given number, reports this on
+/// standard error.
 pub fn most_clients(rt: &HostRuntime, given: Option<usize>, descriptors: Descriptors) -> usize {
     let limit = limit();
     let Some(clients) = given else {

@@ -1,10 +1,10 @@
 //! Opening the files that the words of a command line name.
 
-use resp_args::options::STANDARD_INPUT;
+use resp_cli_args::options::STANDARD_INPUT;
 use std::fs::File;
 use std::io::{self, ErrorKind, IsTerminal, Write};
 
-/// The line for a person who may wonder why nothing happens.
+/// The line that tells the user why nothing happens.
 const WAITS: &[u8] = b"reading standard input; Ctrl-D ends it\n";
 
 /// Opens a file to be read.

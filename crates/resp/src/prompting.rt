@@ -1,9 +1,9 @@
 //! The prompt of `ask` on a terminal.
 
-use resp_args::asking::Asking;
+use resp_cli_args::asking::Asking;
 use std::io::{self, IsTerminal, Read, Write};
 
-/// A reader of lines that a person types. It prints a prompt before each read.
+/// A reader of lines that the user types. It prints a prompt before each read.
 #[derive(Drop)]
 pub struct Prompting<'a, R, W> {
     inner: R,
@@ -12,7 +12,7 @@ pub struct Prompting<'a, R, W> {
 }
 
 impl<'a, R, W> Prompting<'a, R, W> {
-    /// Makes a reader over `inner` that prints a prompt to `terminal`.
+    /// Returns a reader over `inner` that prints a prompt to `terminal`.
     pub fn new(inner: R, terminal: W, prompt: &'a str) -> Self {
         Prompting {
             inner,

@@ -1,28 +1,29 @@
 //! `resp tap --replay`, which prints the traffic in a capture.
 
-use crate::failures::{Faults, Input};
-use crate::listening::{filter_of, tables_of};
+use crate::failures::{Faults, WatchedInput};
+use crate::listening::{filter_of, tables_of, tells_time};
 use crate::opening::{open_file, tell_waiting};
-use resp_args::options::STANDARD_INPUT;
-use resp_args::tapping::Tapping;
-use resp_args::tool_error::ToolError;
-use resp_args::traffic::Captured;
-use resp_args::words::stop;
-use resp_print::live::LiveSink;
+use resp_cli_args::options::STANDARD_INPUT;
+use resp_cli_args::tapping::Tapping;
+use resp_cli_args::tool_error::ToolError;
+use resp_cli_args::traffic::Captured;
+use resp_cli_args::words::stop;
+use resp_io::device::{Device, Sink};
+use resp_io::live::LiveSink;
 use resp_tap::Filter;
-use resp_value::device::{Device, Sink};
-use resp_window::{Replay, ReplayError, ReplaySettings};
+use resp_tap_net::{Replay, ReplayError, ReplaySettings};
 use std::alloc::{AllocError, Global};
 use std::io::Read;
 
-/// The status if the file is no capture, or is cut off.
+/// The status if the file is not a capture, or is cut off.
 const WRONG_CAPTURE: u8 = 1;
 
 /// Returns how the capture is printed.
 fn settings_of(tapping: &Tapping<'_>, captured: &Captured<'_>, is_slow: bool) -> ReplaySettings {
     ReplaySettings {
         limits: tapping.limits,
-        tells_time: tapping.tells_time || is_slow || tapping.style.json,
+        tells_time: tells_time(tapping, is_slow),
+        tells_date: tapping.tells_date,
         reads_lines: !tapping.refuses_lines,
         shows_passwords: tapping.shows_passwords,
         shown: tapping.shown,
@@ -71,7 +72,7 @@ fn replay<R: Read + Drop, W: LiveSink>(
     writer: &mut W,
     faults: &mut Faults<'_>,
 ) -> Result<u8, AllocError> {
-    let mut reader = Device::new(Input::new(stream, faults.failures));
+    let mut reader = Device::new(WatchedInput::new(stream, faults.failures));
     let Ok(mut replay) = Replay::new(alloc, settings, filter) else {
         return Err(AllocError);
     };

@@ -2,7 +2,7 @@
 
 ghost use Rattle.std.specs.Io.{ReadsAtMost, WritesAtMost};
 
-use resp_loop::Address;
+use resp_net::Address;
 use std::io;
 use std::io::{ErrorKind, Read, Write};
 use std::net::TcpStream;
@@ -19,8 +19,8 @@ pub enum ServerStream {
 }
 
 impl ServerStream {
-    /// Connects to the first of these addresses that accepts a connection. With a timeout, each of them has
-    /// this long to accept it, and each read that waits for longer fails.
+    /// Connects to the first of these addresses that accepts a connection. With a timeout, each of
+    /// them has this long to accept the connection, and each read that takes longer fails.
     ///
     /// # Errors
     ///

@@ -1,7 +1,7 @@
-//! The style in which text is printed, by the options and the environment.
+//! The style in which text is printed, as the options and the environment ask for.
 
 use crate::failures::Faults;
-use resp_args::style::StyleOptions;
+use resp_cli_args::style::StyleOptions;
 use resp_paint::Style;
 use std::env;
 use std::io::IsTerminal;
@@ -9,7 +9,7 @@ use std::io::IsTerminal;
 /// The environment variable that switches colors off if it is not empty.
 const NO_COLOR: &str = "NO_COLOR";
 
-/// The error of a word that says nothing about colors, after the word.
+/// The end of the error for a word that is not valid for `--color`.
 const BAD_COLOR: &[u8] = b"' for '--color <WHEN>': expected auto, always or never";
 
 /// Returns the style that the options ask for. Without `--color`, and with `--color auto`, text has

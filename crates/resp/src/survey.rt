@@ -1,10 +1,10 @@
 //! What the proxy would do with each command of a server.
 
 use memchr::memchr;
-use resp_args::proxying::Proxying;
+use resp_cli_args::proxying::Proxying;
 use resp_commands::{Class, entry, row_of};
+use resp_io::device::{DeviceFault, Sink};
 use resp_print::text::{write_number, write_text};
-use resp_value::device::{DeviceFault, Sink};
 use resp_value::value::Value;
 use std::alloc::{AllocError, Global};
 
@@ -15,7 +15,7 @@ const FLAGS: usize = 2;
 
 const SUBCOMMANDS: usize = 9;
 
-/// The most characters of a line of names.
+/// The maximum number of characters of a line of names.
 const WIDTH: usize = 78;
 
 /// The least numbers of two, three, four and five digits.
@@ -84,8 +84,8 @@ struct Listed {
     /// Whether `--also` may name the command: the table does not have it, and the server does not say that
     /// it may wait, subscribes or administers.
     is_admissible: bool,
-    /// Whether `--learn` admits the command: it is admissible, and the server says that it reads or writes
-    /// and that scripts may call it. The same holds of all its subcommands.
+    /// Whether `--learn` admits the command: it is admissible, and the server says that it reads or
+    /// writes and that scripts may call it. The same is true for all its subcommands.
     is_learnable: bool,
 }
 
@@ -116,7 +116,7 @@ struct Terms<'a> {
     /// The names of `--also`, with a comma between two of them.
     also: &'a str,
     local_ping: bool,
-    /// Whether clients in another setting than the first share a connection.
+    /// Whether clients in settings other than the first share a connection.
     has_settings: bool,
     /// Whether the commands that the server says read or write are sent.
     learns: bool,
@@ -362,7 +362,8 @@ fn treatment_without_row(name: &[u8], subcommand: Option<&[u8]>, terms: Terms<'_
     Treatment::Unknown
 }
 
-/// Returns whether a name is one of these, with a comma between two of them, in any case.
+/// Returns whether a name is one of these, with a comma between two of them, in upper, lower or
+/// mixed case.
 fn is_named(names: &str, name: &[u8]) -> bool {
     names
         .split(',')
@@ -444,8 +445,8 @@ fn printed(alloc: Global, full_name: &[u8]) -> Result<Vec<u8>, AllocError> {
     Ok(name)
 }
 
-/// Writes a name behind a line of so many characters, or at the beginning of the next line. Returns the
-/// number of characters of its line.
+/// Writes a name at the end of a line of this many characters, or at the beginning of the next
+/// line. Returns the number of characters of its line.
 fn write_name<W: Sink>(writer: &mut W, name: &[u8], column: usize) -> Result<usize, DeviceFault> {
     let end = column.saturating_add(name.len()).saturating_add(2);
     let begins_line = column == 0 || end > WIDTH;

@@ -17,8 +17,8 @@ pub(crate) const HELLO_WAITS: u32 = 67;
 /// in another way than HELLO.
 pub(crate) const UNPAIRED: u32 = 68;
 
-/// The error number of a command that pushes answer, while another such command waits.
+/// The error number of a command whose replies are pushes, while another such command waits.
 pub(crate) const PUSHES_WAIT: u32 = 69;
 
-/// The error number of a reply that lies whole in a buffer and is not plain.
+/// The error number of a complete reply that is not plain.
 pub(crate) const NOT_PLAIN: u32 = 70;

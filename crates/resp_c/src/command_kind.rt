@@ -1,4 +1,4 @@
-//! How a command is answered, from its words.
+//! How a server replies to a command, given its words.
 
 ghost use Rattle.std.specs.Prelude.{◌≡◌, ◌≤◌, [], ◌∷◌, ℕ, List};
 ghost use Rattle.resp_c.specs.CommandKinds.{is_subscribing, kind_of_command, kind_of_hello};
@@ -29,8 +29,8 @@ fn kind_of_version(word: &[u8]) -> u32
     }
 }
 
-/// Returns the kind of a command that begins with these words. A command of one word has the kind of
-/// one whose second word is empty.
+/// Returns the kind of a command whose first two words are `name` and `argument`. For a command of one
+/// word, `argument` is empty.
 fn kind_of_words(name: &[u8], argument: &[u8]) -> u32
     ensures { result ≡ kind_of_command (name.now ∷ argument.now ∷ []) }
 {
@@ -46,9 +46,9 @@ fn kind_of_words(name: &[u8], argument: &[u8]) -> u32
     number::ONE_REPLY
 }
 
-/// Returns how a command of `count` words is answered, the kind for
-/// [`crate::pairing::resp_pairing_queue`]. `name` is the first word, and `argument` the second. They
-/// have no meaning if there are fewer words. Upper and lower case of a name are the same.
+/// Returns how a server replies to a command of `count` words, as the kind for
+/// [`crate::pairing::resp_pairing_queue`]. `name` is the first word, and `argument` the second.
+/// They have no meaning if there are fewer words. Upper and lower case of a name are the same.
 ///
 /// Returns 0 for a command that has exactly one reply, 2 or 3 for a HELLO that requests this
 /// version, 16 for SUBSCRIBE, PSUBSCRIBE, SSUBSCRIBE and their UN- forms, and 17 for the other

@@ -14,8 +14,8 @@ use resp_scan::slot::Slot;
 pub struct RespEvent {
     /// The kind of event: `RESP_MORE` if there is no event, otherwise `RESP_NULL` to `RESP_WHOLE`.
     pub kind: u32,
-    /// The kind of a text, `RESP_TEXT_SIMPLE` to `RESP_TEXT_BIG`, also of a whole text. The kind of
-    /// an aggregate that opens, `RESP_ARRAY` to `RESP_PUSH`.
+    /// The kind of a text, `RESP_TEXT_SIMPLE` to `RESP_TEXT_BIG`, even for a whole text. The kind
+    /// of an aggregate that opens, `RESP_ARRAY` to `RESP_PUSH`.
     pub form: u32,
     /// An integer. Or 1 for true and for a big number below zero, and 0 for false and for another
     /// big number.
@@ -51,7 +51,8 @@ fn text_form(kind: TextKind) -> u32
     }
 }
 
-/// Stores an event. Fields that it does not need are unchanged, including the number of its bytes.
+/// Writes an event of the scanner into the event of C. Leaves `used` unchanged, and the fields that this
+/// kind of event does not have.
 #[inline(always)]
 pub(crate) fn tell(event: &mut RespEvent, told: Event<'_>)
     ensures used { event.new.used ≡ event.old.used }

@@ -13,8 +13,8 @@ pub fn parts_make_texts()
     ensures command { AHeadAndItsWordsAreTheCommand }
 {}
 
-/// A run of the calls that `resp_pairing_step` makes is a client's reading: each value is read in
-/// the version in which the client reads it, and each reply has the number of its command.
+/// The calls that `resp_pairing_step` makes read values as a client does: each value is read in the
+/// version in which the client reads it, and each reply has the number of its command.
 pub fn calls_read_as_a_client()
     ensures { CallsReadAsAClient }
 {}
@@ -25,7 +25,7 @@ pub fn events_show_a_refusal()
     ensures { TheEventsShowARefusal }
 {}
 
-/// How some commands are answered, by their words.
+/// How a server replies to some commands, given their words.
 pub fn kinds_of_commands()
     ensures get { kind_of_command (codes "get" ∷ codes "subscribe" ∷ []) ≡ one_reply }
     ensures no_word { kind_of_command [] ≡ not_paired }

@@ -49,8 +49,8 @@ pub struct RespPairing {
     pub refuses: u32,
     /// The first byte of the value.
     pub first: u32,
-    /// The number of pushes that are left of the waiting command that pushes answer, or 0 if there is
-    /// no such command.
+    /// The number of missing pushes of the waiting command whose replies are pushes, or 0 if there
+    /// is no such command.
     pub pushes: u64,
     /// The number of commands that wait before that command.
     pub before_pushes: u64,
@@ -146,9 +146,9 @@ pub extern "C" fn resp_pairing_queue(pairing: &mut RespPairing, kind: u32, numbe
     0
 }
 
-/// Queues a command that `pushes` pushes answer in version 3, or one error: SUBSCRIBE, PSUBSCRIBE,
+/// Queues a command that gets `pushes` pushes in version 3, or one error: SUBSCRIBE, PSUBSCRIBE,
 /// SSUBSCRIBE and their UN- forms, with one push for each channel. Sets `number` to its number,
-/// counted from 1. Its wait ends after so many pushes that arrive while it waits first, or at a
+/// counted from 1. Its wait ends after this many pushes that arrive while it waits first, or at a
 /// reply.
 ///
 /// Returns 0, or the number of an error, and then changes nothing: 68 for no push, in version 2 and
@@ -283,7 +283,7 @@ fn answer(pairing: &mut RespPairing)
     }
 }
 
-/// Counts the value that ends for the command that pushes answer.
+/// Counts a complete value for the command whose replies are pushes.
 fn count_for_pushes(pairing: &mut RespPairing)
     ensures pushes { (pairing.new.pushes ≡ pushes_after pairing.old) ×
         (pairing.new.before_pushes ≡ before_pushes_after pairing.old) }
@@ -309,8 +309,8 @@ fn count_for_pushes(pairing: &mut RespPairing)
 /// Receives an event of the value whose first byte was received, and sets `number` to the number of
 /// the reply that it belongs to, or to 0 for a push. At `RESP_DONE` the reply belongs to the first
 /// command that waits. If that command is a HELLO with a version, this becomes the version, unless
-/// the reply is an error. The last push of a command that pushes answer, if that command waits
-/// first, ends its wait.
+/// the reply is an error. The last push of a command whose replies are pushes, if that command
+/// waits first, ends its wait.
 #[unsafe(no_mangle)]
 pub extern "C" fn resp_pairing_take(pairing: &mut RespPairing, event: &RespEvent, number: &mut u64)
     ensures number { pairing.old.answered < 2 ^ 63 →

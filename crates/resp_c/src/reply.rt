@@ -12,8 +12,7 @@ ghost use Rattle.resp_value.specs.declared.cause.Cause.TheVariants as cause;
 
 use crate::answer::{BAD_VERSION, NO_ROOM, NOT_PLAIN};
 use crate::limits::{RespLimits, checked};
-use resp_nodes::Node;
-use resp_reply::in_place::{Stop, read_in_place};
+use resp_flat::{InPlaceStop, Node, read_in_place};
 use resp_value::cause::Cause;
 
 /// The replies that a call has read.
@@ -27,24 +26,23 @@ pub struct RespReplies {
 }
 
 /// Returns the error number of this reason, if this many bytes are left.
-fn stop_number(stop: Stop, left: usize) -> u32
+fn stop_number(stop: InPlaceStop, left: usize) -> u32
     ensures { result ≡ stop_number stop left }
 {
     match stop {
-        Stop::Incomplete if left == 0 => 0,
-        Stop::Incomplete => Cause::Truncated.number(),
-        Stop::NoNodes => NO_ROOM,
-        Stop::NotPlain => NOT_PLAIN,
-        Stop::Refused(fault) => fault.cause.number(),
+        InPlaceStop::Incomplete if left == 0 => 0,
+        InPlaceStop::Incomplete => Cause::Truncated.number(),
+        InPlaceStop::NoNodes => NO_ROOM,
+        InPlaceStop::NotPlain => NOT_PLAIN,
+        InPlaceStop::Refused(fault) => fault.cause.number(),
     }
 }
 
-/// Reads all replies that lie whole at the beginning of a buffer, and fills nodes for them. Each text
-/// is a part of the buffer. `replies` has the number of nodes and of bytes of these replies.
+/// Reads all complete replies at the beginning of a buffer, and fills nodes for them. Each text is a
+/// part of the buffer. `replies` has the number of nodes and of bytes of these replies.
 ///
 /// Returns 0 if the buffer has nothing else, or 9 if the bytes left are the beginning of a reply, or 65
-/// if the next reply lies whole in the buffer and has more nodes than are left, or 70 if it lies whole in
-/// the buffer and is not plain, or the number of the cause of a fault. Returns 64 for a version other
+/// if the next reply is complete and has more nodes than are left, or 70 if it is complete and not plain, or the number of the cause of a fault. Returns 64 for a version other
 /// than 2 and 3, and 63 for a limit outside its range, and then changes nothing.
 #[unsafe(no_mangle)]
 pub extern "C" fn resp_reply_read(

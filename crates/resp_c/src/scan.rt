@@ -22,8 +22,8 @@ pub struct RespScanned {
 }
 
 /// Stores the events of the piece, as repeated calls of [`crate::scanner::resp_scanner_step`] do,
-/// and stores a text that lies completely in the piece as one event. Ends when the array is full,
-/// the piece is used up or a byte is rejected.
+/// and stores a text that is completely in the piece as one event. Ends when the array is full, the
+/// piece is used up or a byte is rejected.
 ///
 /// Returns 0, or the number of the cause of a fault. The events before the rejected byte are
 /// stored. `scanned` has the number of events stored and the number of bytes used: those of the

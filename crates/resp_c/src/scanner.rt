@@ -57,7 +57,7 @@ pub(crate) fn version(number: u32) -> Option<Version>
     }
 }
 
-/// Makes a scanner of version 2 or 3 with these limits in the memory, before the first value. It
+/// Creates a scanner of version 2 or 3 with these limits in the memory, before the first value. It
 /// may be called again.
 ///
 /// Returns 0, or the number of an error: 64 for another version, 63 for a limit outside its range.
@@ -198,9 +198,9 @@ pub extern "C" fn resp_scanner_taken(scanner: &mut RespScanner) -> u64
     scanner.scanner().taken()
 }
 
-/// Returns the least number of bytes that complete the current value, ignoring the limit of total:
-/// 3 between values, and 0 if all bytes were read and only events are left. The number has no
-/// meaning after a fault.
+/// Returns the least number of bytes that complete the current value, ignoring the limit `total`: 3
+/// between values, and 0 if all bytes were read and only events are left. The number has no meaning
+/// after a fault.
 #[unsafe(no_mangle)]
 pub extern "C" fn resp_scanner_needed(scanner: &mut RespScanner) -> u64
     requires { IsHeld scanner.old.scanner }

@@ -4,7 +4,7 @@
 //! Each function returns 0 and sets `size` to the number of bytes of the text. It returns 65 if the
 //! buffer is shorter than the text, and sets `size` then too. It returns another number if there is
 //! no such text. After an error the buffer is unchanged. A text whose length no text in memory has,
-//! which C may pass, is longer than each buffer: the result is 65.
+//! which C may pass, is longer than any buffer: the result is 65.
 
 ghost use Rattle.std.specs.Prelude.{◌≡◌, ◌↔◌, ◌<◌, ◌≤◌, ◌++◌, [], All, IsTrue, IfSome, length};
 ghost use Rattle.resp_value.specs.Bytes.{IsLine, crlf};

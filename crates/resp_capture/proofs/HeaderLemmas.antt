@@ -7,9 +7,9 @@ use Rattle.resp_capture.specs.Frames.{HasResolution, IsOtherOption, IsResolution
 use Rattle.resp_capture.specs.declared.number.ByteOrder.{ByteOrder}
 use Rattle.resp_capture.specs.Headers.{CarriesFour, CarriesPacket, CarriesSix, CarriesTcp, IsExtension, IsFour, IsFragment, IsFragmentSix, IsSix, IsTcp, IsTyped, Reaches, ReachesAfter, end_six, extension_size, is_extension, type_place}
 use Rattle.resp_capture.specs.Segments.{HasSegment}
-use Rattle.resp_capture.specs.declared.address.Address.{Address}
-use Rattle.resp_capture.specs.declared.link.Link.{Link}
-use Rattle.resp_capture.specs.declared.link.Link.TheVariants.{Loopback, Ethernet, Raw, Cooked, CookedTwo}
+use Rattle.resp_capture.specs.declared.address.IpAddress.{IpAddress}
+use Rattle.resp_capture.specs.declared.link.LinkType.{LinkType}
+use Rattle.resp_capture.specs.declared.link.LinkType.TheVariants.{Loopback, Ethernet, Raw, Cooked, CookedTwo}
 use Rattle.resp_capture.specs.declared.transport.Segment.{Segment}
 use Rattle.std.proofs.Math.Dec.{eqb}
 use Rattle.std.proofs.lemmas.Bool.{eq-eqb, eqb-true}
@@ -160,7 +160,7 @@ four_or_six : (packet : List ℕ) → IsFour packet → IsSix packet → ⊥
 four_or_six packet four six = omega (arith, four.version, six.version)
 
 -- a packet carries the bytes of one connection
-pub tcp_one : (packet : List ℕ) (from to from' to' : Address) (bytes bytes' : List ℕ) → CarriesTcp packet from to bytes → CarriesTcp packet from' to' bytes' →
+pub tcp_one : (packet : List ℕ) (from to from' to' : IpAddress) (bytes bytes' : List ℕ) → CarriesTcp packet from to bytes → CarriesTcp packet from' to' bytes' →
     bytes ≡ bytes'
 tcp_one packet from to from' to' bytes bytes' (inl a) (inl b) = a.bytes_are ∙ sym b.bytes_are
 tcp_one packet from to from' to' bytes bytes' (inl a) (inr b) = absurd (four_or_six packet a.four b.carries.six)
@@ -168,22 +168,22 @@ tcp_one packet from to from' to' bytes bytes' (inr a) (inl b) = absurd (four_or_
 tcp_one packet from to from' to' bytes bytes' (inr a) (inr b) = (six_one packet 6 6 bytes bytes' a.carries b.carries).1
 
 -- a fragment carries no connection
-pub no_tcp_in_fragment : (packet : List ℕ) → IsFragment packet → (from to : Address) (bytes : List ℕ) → CarriesTcp packet from to bytes → ⊥
+pub no_tcp_in_fragment : (packet : List ℕ) → IsFragment packet → (from to : IpAddress) (bytes : List ℕ) → CarriesTcp packet from to bytes → ⊥
 no_tcp_in_fragment packet (inl (four, fragment)) from to bytes (inl a) = omega (arith, fragment, a.whole)
 no_tcp_in_fragment packet (inl (four, fragment)) from to bytes (inr a) = four_or_six packet four a.carries.six
 no_tcp_in_fragment packet (inr (rest, six)) from to bytes (inl a) = four_or_six packet a.four six.six
 no_tcp_in_fragment packet (inr (rest, six)) from to bytes (inr a) = omega (arith, (six_one packet 44 6 rest bytes six a.carries).0)
 
 -- no version of the packet carries a connection
-pub no_tcp : (packet : List ℕ) → ((from to : Address) (bytes : List ℕ) → CarriesFour packet from to bytes → ⊥) →
-    ((bytes : List ℕ) → CarriesSix packet 6 bytes → ⊥) → (from to : Address) (bytes : List ℕ) → CarriesTcp packet from to bytes → ⊥
+pub no_tcp : (packet : List ℕ) → ((from to : IpAddress) (bytes : List ℕ) → CarriesFour packet from to bytes → ⊥) →
+    ((bytes : List ℕ) → CarriesSix packet 6 bytes → ⊥) → (from to : IpAddress) (bytes : List ℕ) → CarriesTcp packet from to bytes → ⊥
 no_tcp packet four six from to bytes (inl a) = four from to bytes a
 no_tcp packet four six from to bytes (inr a) = six bytes a.carries
 
 -- ---- frames
 
 -- a frame carries one packet
-pub frame_one : (link : Link) (frame p q : List ℕ) → CarriesPacket link frame p → CarriesPacket link frame q → p ≡ q
+pub frame_one : (link : LinkType) (frame p q : List ℕ) → CarriesPacket link frame p → CarriesPacket link frame q → p ≡ q
 frame_one Loopback frame p q a b = a.1 ∙ sym b.1
 frame_one Ethernet frame p q a b = a.1.packet_is ∙ sym b.1.packet_is
 frame_one Raw frame p q a b = a ∙ sym b
@@ -191,14 +191,14 @@ frame_one Cooked frame p q a b = a.packet_is ∙ sym b.packet_is
 frame_one CookedTwo frame p q a b = a.packet_is ∙ sym b.packet_is
 
 -- a packet that carries no connection carries no segment
-pub no_segment : (link : Link) (frame packet : List ℕ) → CarriesPacket link frame packet →
-    ((from to : Address) (bytes : List ℕ) → CarriesTcp packet from to bytes → ⊥) → (segment : Segment) → HasSegment link frame segment → ⊥
+pub no_segment : (link : LinkType) (frame packet : List ℕ) → CarriesPacket link frame packet →
+    ((from to : IpAddress) (bytes : List ℕ) → CarriesTcp packet from to bytes → ⊥) → (segment : Segment) → HasSegment link frame segment → ⊥
 no_segment link frame packet carries none segment has =
     let same : has.packet ≡ packet = frame_one link frame has.packet packet has.carries carries in
     none has.from has.to has.bytes (subst (λ p. CarriesTcp p has.from has.to has.bytes) same has.tcp)
 
 -- bytes that are no segment
-pub no_segment_in : (link : Link) (frame packet : List ℕ) (from to : Address) (bytes : List ℕ) → CarriesPacket link frame packet →
+pub no_segment_in : (link : LinkType) (frame packet : List ℕ) (from to : IpAddress) (bytes : List ℕ) → CarriesPacket link frame packet →
     CarriesTcp packet from to bytes → (IsTcp bytes → ⊥) → (segment : Segment) → HasSegment link frame segment → ⊥
 no_segment_in link frame packet from to bytes carries tcp none segment has =
     let same : has.packet ≡ packet = frame_one link frame has.packet packet has.carries carries in

@@ -7,9 +7,9 @@ use Rattle.resp_capture.specs.Headers.{CarriesFour, CarriesTcp, IsFour, end_four
 use Rattle.resp_capture.specs.Numbers.{number16, number32}
 use Rattle.resp_capture.specs.Segments.{HasSegment, IsSegment}
 use Rattle.resp_capture.specs.Writing.{IsRecordOf, IsSameSegment, SegmentsAreReadBack, TimesAreReadBack, words_sum}
-use Rattle.resp_capture.specs.declared.address.Address.{Address}
-use Rattle.resp_capture.specs.declared.address.Address.TheVariants.{Four}
-use Rattle.resp_capture.specs.declared.link.Link.TheVariants.{Raw}
+use Rattle.resp_capture.specs.declared.address.IpAddress.{IpAddress}
+use Rattle.resp_capture.specs.declared.address.IpAddress.TheVariants.{Four}
+use Rattle.resp_capture.specs.declared.link.LinkType.TheVariants.{Raw}
 use Rattle.resp_capture.specs.declared.number.ByteOrder.TheVariants.{Big}
 use Rattle.resp_capture.specs.declared.time.Time.{Time}
 use Rattle.resp_capture.specs.declared.transport.Segment.{Segment}
@@ -121,14 +121,14 @@ four_not_six : (n : ℕ) → n ≡ 4 → n ≡ 6 → ⊥
 four_not_six n four six = omega (arith, four, six)
 
 -- a packet of version 4 carries TCP as one of this version
-four_of : (packet : List ℕ) (from to : Address) (bytes : List ℕ) → IsFour packet → CarriesTcp packet from to bytes → CarriesFour packet from to bytes
+four_of : (packet : List ℕ) (from to : IpAddress) (bytes : List ℕ) → IsFour packet → CarriesTcp packet from to bytes → CarriesFour packet from to bytes
 four_of packet from to bytes four carries = elim carries [
   | inl is ↦ is
   | inr six ↦ absurd (four_not_six _ four.version six.carries.six.version)
 ]
 
 -- what is found of a segment, by the bytes that were sent
-same_segment : (from to : Address) (bytes : List ℕ) (one other : Segment) → IsSegment from to bytes one → IsSegment from to bytes other →
+same_segment : (from to : IpAddress) (bytes : List ℕ) (one other : Segment) → IsSegment from to bytes one → IsSegment from to bytes other →
     IsSameSegment one other
 same_segment from to bytes one other is is' = record {
   same_from_address = is.from_address ∙ sym is'.from_address;

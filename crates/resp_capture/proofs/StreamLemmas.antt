@@ -5,20 +5,20 @@ use Rattle.std.proofs.lemmas.List.{get_or-drop, get_or_default}
 use Rattle.std.proofs.lemmas.List.Edits.{length-remove}
 use Rattle.resp_capture.proofs.Lists.{among_either, among_front, among_last, among_removed, removed_or_among}
 use Rattle.resp_capture.specs.Streams.{Covers, Holds, IsHeld, Skips, StandsIn, StreamState, TakesHeld, TakesSegment}
-use Rattle.resp_capture.specs.declared.held.Held.{Held}
+use Rattle.resp_capture.specs.declared.held.WaitingPart.{WaitingPart}
 
 stands_along : (at at' : ℕ) (bytes bytes' : List ℕ) (place byte : ℕ) → at ≡ at' → bytes ≡ bytes' → StandsIn at bytes place byte →
     StandsIn at' bytes' place byte
 stands_along at at' bytes bytes' place byte e e' stands =
     subst (λ b. StandsIn at' b place byte) e' (subst (λ a. StandsIn a bytes place byte) e stands)
 
-still_held : (held : List Held) (part : Held) (place : ℕ) → Holds held place → Holds (held ++ part ∷ []) place
+still_held : (held : List WaitingPart) (part : WaitingPart) (place : ℕ) → Holds held place → Holds (held ++ part ∷ []) place
 still_held held part place holds =
     let is = holds.is_held in
     record { byte = holds.byte; is_held = record { part = is.part; among = among_front held (part ∷ []) is.part is.among; stands = is.stands } }
 
 -- a part was added, and nothing was given
-pub takes_by_waiting : (old new : StreamState) (at : ℕ) (bytes : List ℕ) (part : Held) → new.first ≡ old.first → new.next ≡ old.next →
+pub takes_by_waiting : (old new : StreamState) (at : ℕ) (bytes : List ℕ) (part : WaitingPart) → new.first ≡ old.first → new.next ≡ old.next →
     part.at ≡ at → part.bytes.items ≡ bytes → new.held ≡ old.held ++ part ∷ [] → TakesSegment old new at bytes []
 takes_by_waiting old new at bytes part first next at_is bytes_are held = record {
   same_first = first;
@@ -31,8 +31,8 @@ takes_by_waiting old new at bytes part first next at_is bytes_are held = record 
     known : (place byte : ℕ) → IsHeld (old.held ++ part ∷ []) place byte → IsHeld old.held place byte ⊎ StandsIn at bytes place byte
     known place byte is = elim (among_either old.held part is.part is.among) [
       | inl before ↦ inl (record { part = is.part; among = before; stands = is.stands })
-      | inr last ↦ inr (stands_along _ _ _ _ place byte (ap (λ (p : Held). p.at) last ∙ at_is)
-          (ap (λ (p : Held). p.bytes.items) last ∙ bytes_are) is.stands)
+      | inr last ↦ inr (stands_along _ _ _ _ place byte (ap (λ (p : WaitingPart). p.at) last ∙ at_is)
+          (ap (λ (p : WaitingPart). p.bytes.items) last ∙ bytes_are) is.stands)
     ]
 
     covered : (place : ℕ) → Covers at (length bytes) place → Holds (old.held ++ part ∷ []) place
@@ -53,7 +53,7 @@ takes_by_waiting old new at bytes part first next at_is bytes_are held = record 
     kept place (inr covers) = covered place covers
 
 -- a part was removed, and its bytes from the next place on were given
-pub takes_removed : (old new : StreamState) (i : ℕ) (part : Held) (given : List ℕ) (skip : ℕ) → i < length old.held →
+pub takes_removed : (old new : StreamState) (i : ℕ) (part : WaitingPart) (given : List ℕ) (skip : ℕ) → i < length old.held →
     part ≡ get_or old.held i part → part.at ≤ old.next → new.first ≡ old.first →
     new.held ≡ remove old.held i → given ≡ drop skip part.bytes.items → new.next ≡ old.next + length given →
     skip ≤ old.next - part.at → (skip ≡ old.next - part.at) ⊎ (skip ≡ length part.bytes.items) → TakesHeld old new given
@@ -63,7 +63,7 @@ takes_removed old new i part given skip inside is_part ready first held given_is
   given_is = λ index less. byte index less;
   known = λ place byte is_held. known place byte (subst (λ h. IsHeld h place byte) held is_held);
   kept = λ place after holds. subst (λ h. Holds h place) (sym held) (kept place after holds);
-  fewer = ap (λ (h : List Held). length h + 1) held ∙ length-remove old.held i inside;
+  fewer = ap (λ (h : List WaitingPart). length h + 1) held ∙ length-remove old.held i inside;
 }
   where
     size : length given ≡ length part.bytes.items - skip
@@ -96,13 +96,13 @@ takes_removed old new i part given skip inside is_part ready first held given_is
         elim (removed_or_among old.held i is.part inside is.among) [
           | inl removed ↦
               let same : is.part ≡ part = removed ∙ get_or_default old.held i is.part part inside ∙ sym is_part in
-              absurd (gone place after holds.byte (stands_along _ _ _ _ place holds.byte (ap (λ (p : Held). p.at) same)
-              (ap (λ (p : Held). p.bytes.items) same) is.stands))
+              absurd (gone place after holds.byte (stands_along _ _ _ _ place holds.byte (ap (λ (p : WaitingPart). p.at) same)
+              (ap (λ (p : WaitingPart). p.bytes.items) same) is.stands))
           | inr left ↦ record { byte = holds.byte; is_held = record { part = is.part; among = left; stands = is.stands } }
         ]
 
 -- the next place is that of the first part, and nothing before it waits
-pub skips_to : (old new : StreamState) (least missing : ℕ) → ((part : Held) → IsAmong old.held part → least ≤ part.at) →
+pub skips_to : (old new : StreamState) (least missing : ℕ) → ((part : WaitingPart) → IsAmong old.held part → least ≤ part.at) →
     new.first ≡ old.first → new.held ≡ old.held → new.next ≡ old.next + missing → missing ≡ least - old.next → Skips old new missing
 skips_to old new least missing is_least first held next missing_is = record {
   same_first = first;

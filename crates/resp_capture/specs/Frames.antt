@@ -1,7 +1,7 @@
 -- The packets in the blocks of a capture, and the interfaces that its blocks describe.
 use Rattle.std.specs.Prelude.{◌≡◌, ◌⊎◌, ℕ, ◌+◌, ◌-◌, ◌*◌, ◌/◌, ◌%◌, ◌^◌, ◌<◌, ◌≤◌, ◌==◌, zero, suc, List, None, Some, drop, if◌then◌else◌, length, ltb, min, slice_get, slice_index, slice_range}
 use Rattle.resp_capture.specs.Numbers.{number16, number32}
-use Rattle.resp_capture.specs.declared.capture.Frame.{Frame}
+use Rattle.resp_capture.specs.declared.capture.CapturedPacket.{CapturedPacket}
 use Rattle.resp_capture.specs.declared.interface.Interface.{Interface}
 use Rattle.resp_capture.specs.declared.number.ByteOrder.{ByteOrder}
 use Rattle.resp_capture.specs.declared.time.Time.{Time}
@@ -48,7 +48,7 @@ pub record IsTime (seconds ticks per_second : ℕ) (time : Time) : Type 0 where
   pub nanos_is : time.nanos ≡ ((ticks % per_second) * 1000000000) / per_second
 
 -- the packet of a record of the format pcap, whose packets have this link and this many ticks of a second
-pub record IsRecord (order : ByteOrder) (interface : Interface) (block : List ℕ) (frame : Frame) : Type 0 where
+pub record IsRecord (order : ByteOrder) (interface : Interface) (block : List ℕ) (frame : CapturedPacket) : Type 0 where
   pub whole : 16 ≤ length block
   pub has_ticks : 0 < interface.per_second
   pub time : Time
@@ -58,7 +58,7 @@ pub record IsRecord (order : ByteOrder) (interface : Interface) (block : List �
   pub bytes_are : frame.bytes.now ≡ drop 16 block
 
 -- the packet of a record of the format pcap, whose packets are those of the first of these interfaces
-abbrev pub HasRecord : ByteOrder → List Interface → List ℕ → Frame → Type 0
+abbrev pub HasRecord : ByteOrder → List Interface → List ℕ → CapturedPacket → Type 0
 HasRecord order interfaces block frame = (interface : Interface) × (slice_get interfaces 0 ≡ Some interface) ×
     IsRecord order interface block frame
 
@@ -67,7 +67,7 @@ abbrev pub ticks_in : ByteOrder → List ℕ → ℕ
 ticks_in order block = number32 order 12 block * 4294967296 + number32 order 16 block
 
 -- the packet of an enhanced packet block, of one of these interfaces
-pub record IsEnhanced (order : ByteOrder) (interfaces : List Interface) (block : List ℕ) (frame : Frame) : Type 0 where
+pub record IsEnhanced (order : ByteOrder) (interfaces : List Interface) (block : List ℕ) (frame : CapturedPacket) : Type 0 where
   pub kind : number32 order 0 block ≡ 6
   pub interface : Interface
   pub has_interface : slice_get interfaces (number32 order 8 block) ≡ Some interface
@@ -85,7 +85,7 @@ simple_count order most block = min (if most == 0 then number32 order 8 block el
     (length block - 16)
 
 -- the packet of a simple packet block, of the first of these interfaces. It has no time.
-pub record IsSimple (order : ByteOrder) (interfaces : List Interface) (block : List ℕ) (frame : Frame) : Type 0 where
+pub record IsSimple (order : ByteOrder) (interfaces : List Interface) (block : List ℕ) (frame : CapturedPacket) : Type 0 where
   pub kind : number32 order 0 block ≡ 3
   pub whole : 16 ≤ length block
   pub interface : Interface
@@ -95,9 +95,9 @@ pub record IsSimple (order : ByteOrder) (interfaces : List Interface) (block : L
   pub bytes_are : frame.bytes.now ≡ slice_range block 12 (12 + simple_count order interface.most block)
 
 -- the packet of a block of the format pcapng
-abbrev pub IsFrame : ByteOrder → List Interface → List ℕ → Frame → Type 0
+abbrev pub IsFrame : ByteOrder → List Interface → List ℕ → CapturedPacket → Type 0
 IsFrame order interfaces block frame = IsEnhanced order interfaces block frame ⊎ IsSimple order interfaces block frame
 
 -- no packet is one of these
-abbrev pub HasNo : (Frame → Type 0) → Type 0
-HasNo IsOne = (frame : Frame) → IsOne frame → ⊥
+abbrev pub HasNo : (CapturedPacket → Type 0) → Type 0
+HasNo IsOne = (frame : CapturedPacket) → IsOne frame → ⊥

@@ -1,14 +1,14 @@
 -- The heads in a frame of a capture: of the link, of the internet protocol and of TCP.
 use Rattle.std.specs.Prelude.{◌≡◌, ◌⊎◌, ℕ, zero, suc, ◌+◌, ◌*◌, ◌/◌, ◌%◌, ◌<◌, ◌≤◌, ◌==◌, ◌||◌, Bool, List, false, Option, None, Some, drop, if◌then◌else◌, length, min, slice_index, take, true}
 use Rattle.resp_capture.specs.Numbers.{number16, number32, number64}
-use Rattle.resp_capture.specs.declared.address.Address.{Address}
-use Rattle.resp_capture.specs.declared.address.Address.TheVariants.{Four, Six}
-use Rattle.resp_capture.specs.declared.link.Link.{Link}
-use Rattle.resp_capture.specs.declared.link.Link.TheVariants.{Loopback, Ethernet, Raw, Cooked, CookedTwo}
+use Rattle.resp_capture.specs.declared.address.IpAddress.{IpAddress}
+use Rattle.resp_capture.specs.declared.address.IpAddress.TheVariants.{Four, Six}
+use Rattle.resp_capture.specs.declared.link.LinkType.{LinkType}
+use Rattle.resp_capture.specs.declared.link.LinkType.TheVariants.{Loopback, Ethernet, Raw, Cooked, CookedTwo}
 use Rattle.resp_capture.specs.declared.number.ByteOrder.TheVariants.{Big}
 
 -- the link with this number in the files
-abbrev pub link_of : ℕ → Option Link
+abbrev pub link_of : ℕ → Option LinkType
 link_of n = if n == 0 then Some Loopback else
     (if n == 1 then Some Ethernet else
     (if n == 101 then Some Raw else
@@ -34,7 +34,7 @@ pub record IsTyped (place head : ℕ) (frame packet : List ℕ) : Type 0 where
   pub packet_is : packet ≡ drop head frame
 
 -- the frame of this link carries the packet
-abbrev pub CarriesPacket : Link → List ℕ → List ℕ → Type 0
+abbrev pub CarriesPacket : LinkType → List ℕ → List ℕ → Type 0
 CarriesPacket Loopback frame packet = (4 ≤ length frame) × (packet ≡ drop 4 frame)
 CarriesPacket Ethernet frame packet = (22 ≤ length frame) × IsTyped (type_place frame) (type_place frame + 2) frame packet
 CarriesPacket Raw frame packet = packet ≡ frame
@@ -62,7 +62,7 @@ abbrev pub IsFragmentFour : List ℕ → Type 0
 IsFragmentFour packet = 0 < number16 Big 6 packet % 16384
 
 -- a packet of version 4 carries these bytes of TCP from one address to another
-pub record CarriesFour (packet : List ℕ) (from to : Address) (bytes : List ℕ) : Type 0 where
+pub record CarriesFour (packet : List ℕ) (from to : IpAddress) (bytes : List ℕ) : Type 0 where
   pub four : IsFour packet
   pub whole : number16 Big 6 packet % 16384 ≡ 0
   pub protocol : slice_index packet 9 ≡ 6
@@ -110,7 +110,7 @@ pub record CarriesSix (packet : List ℕ) (protocol : ℕ) (bytes : List ℕ) : 
   pub reaches : Reaches 8 (slice_index packet 6) (drop 40 (take (end_six packet) packet)) protocol bytes
 
 -- the addresses of a packet of version 6
-abbrev pub address_six : ℕ → List ℕ → Address
+abbrev pub address_six : ℕ → List ℕ → IpAddress
 address_six at packet = Six (number64 at packet) (number64 (at + 8) packet)
 
 -- a packet of version 6 is a fragment
@@ -118,7 +118,7 @@ abbrev pub IsFragmentSix : List ℕ → Type 0
 IsFragmentSix packet = (bytes : List ℕ) × CarriesSix packet 44 bytes
 
 -- a packet of version 6 carries these bytes of TCP from one address to another
-pub record CarriesTcpInSix (packet : List ℕ) (from to : Address) (bytes : List ℕ) : Type 0 where
+pub record CarriesTcpInSix (packet : List ℕ) (from to : IpAddress) (bytes : List ℕ) : Type 0 where
   pub carries : CarriesSix packet 6 bytes
   pub from_is : from ≡ address_six 8 packet
   pub to_is : to ≡ address_six 24 packet
@@ -138,5 +138,5 @@ abbrev pub IsFragment : List ℕ → Type 0
 IsFragment packet = (IsFour packet × IsFragmentFour packet) ⊎ IsFragmentSix packet
 
 -- a packet carries these bytes of TCP from one address to another
-abbrev pub CarriesTcp : List ℕ → Address → Address → List ℕ → Type 0
+abbrev pub CarriesTcp : List ℕ → IpAddress → IpAddress → List ℕ → Type 0
 CarriesTcp packet from to bytes = CarriesFour packet from to bytes ⊎ CarriesTcpInSix packet from to bytes

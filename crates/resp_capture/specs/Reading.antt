@@ -9,10 +9,10 @@ use Rattle.resp_capture.specs.declared.block.Format.TheVariants as format
 use Rattle.resp_capture.specs.declared.block.Magic.{Magic}
 use Rattle.resp_capture.specs.declared.error.Reason.{Reason}
 use Rattle.resp_capture.specs.declared.error.Reason.TheVariants.{NotACapture, OutOfMemory, UnknownLink, WrongLength}
-use Rattle.resp_capture.specs.declared.link.Link.{Link}
+use Rattle.resp_capture.specs.declared.link.LinkType.{LinkType}
 use Rattle.resp_capture.specs.declared.number.ByteOrder.{ByteOrder}
 use Rattle.resp_capture.specs.declared.number.ByteOrder.TheVariants.{Big}
-use Rattle.resp_capture.specs.declared.capture.Frame.{Frame}
+use Rattle.resp_capture.specs.declared.capture.CapturedPacket.{CapturedPacket}
 use Rattle.resp_capture.specs.declared.capture.Capture.{Capture}
 
 -- the bytes of the block that is read next
@@ -52,7 +52,7 @@ fault_of_pcapng order bytes = if ltb (length bytes) 12 then Some WrongLength els
     (if (number32 order 0 bytes == 1) && ltb (length bytes) 20 then Some WrongLength else None))
 
 -- the packets of a file have a link of this number, which may be no link that is read
-abbrev pub fault_of_link : Option Link → ℕ → Option Reason
+abbrev pub fault_of_link : Option LinkType → ℕ → Option Reason
 fault_of_link (Some link) number = None
 fault_of_link None number = Some (UnknownLink number)
 
@@ -124,11 +124,11 @@ abbrev pub IsAtEnd : Capture → Type 0
 IsAtEnd capture = capture.is_whole ≡ true
 
 -- the packet of this block, by the format of the file; the first block of the format pcap has no packet
-abbrev pub HasFrameIn : Format → Capture → Frame → Type 0
+abbrev pub HasFrameIn : Format → Capture → CapturedPacket → Type 0
 HasFrameIn format.Unknown capture frame = ⊥
 HasFrameIn (format.Pcap order) capture frame = (0 < capture.at) × HasRecord order capture.interfaces.items capture.held.items frame
 HasFrameIn (format.Pcapng order) capture frame = IsFrame order capture.interfaces.items capture.held.items frame
 
 -- the last block that was read is whole, and has this packet
-abbrev pub HasFrame : Capture → Frame → Type 0
+abbrev pub HasFrame : Capture → CapturedPacket → Type 0
 HasFrame capture frame = (capture.is_whole ≡ true) × HasFrameIn capture.format capture frame

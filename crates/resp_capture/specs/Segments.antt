@@ -2,15 +2,15 @@
 use Rattle.std.specs.Prelude.{◌≡◌, ℕ, ◌/◌, ◌%◌, ◌==◌, List, drop, slice_index}
 use Rattle.resp_capture.specs.Headers.{CarriesPacket, CarriesTcp, IsFragment, IsTcp, head_tcp}
 use Rattle.resp_capture.specs.Numbers.{number16, number32}
-use Rattle.resp_capture.specs.declared.address.Address.{Address}
-use Rattle.resp_capture.specs.declared.link.Link.{Link}
+use Rattle.resp_capture.specs.declared.address.IpAddress.{IpAddress}
+use Rattle.resp_capture.specs.declared.link.LinkType.{LinkType}
 use Rattle.resp_capture.specs.declared.number.ByteOrder.TheVariants.{Big}
 use Rattle.resp_capture.specs.declared.packet.Packet.{Packet}
 use Rattle.resp_capture.specs.declared.packet.Packet.TheVariants as carried
 use Rattle.resp_capture.specs.declared.transport.Segment.{Segment}
 
 -- the bytes that were sent from one address to another are this segment
-pub record IsSegment (from to : Address) (bytes : List ℕ) (segment : Segment) : Type 0 where
+pub record IsSegment (from to : IpAddress) (bytes : List ℕ) (segment : Segment) : Type 0 where
   pub tcp : IsTcp bytes
   pub from_address : segment.from.address ≡ from
   pub from_port : segment.from.port ≡ number16 Big 0 bytes
@@ -24,17 +24,17 @@ pub record IsSegment (from to : Address) (bytes : List ℕ) (segment : Segment) 
   pub data_is : segment.data.now ≡ drop (head_tcp bytes) bytes
 
 -- the frame of this link carries the segment
-pub record HasSegment (link : Link) (frame : List ℕ) (segment : Segment) : Type 0 where
+pub record HasSegment (link : LinkType) (frame : List ℕ) (segment : Segment) : Type 0 where
   pub packet : List ℕ
   pub carries : CarriesPacket link frame packet
-  pub from : Address
-  pub to : Address
+  pub from : IpAddress
+  pub to : IpAddress
   pub bytes : List ℕ
   pub tcp : CarriesTcp packet from to bytes
   pub segment_is : IsSegment from to bytes segment
 
 -- the frame of this link carries a fragment
-pub record HasFragment (link : Link) (frame : List ℕ) : Type 0 where
+pub record HasFragment (link : LinkType) (frame : List ℕ) : Type 0 where
   pub packet : List ℕ
   pub carries : CarriesPacket link frame packet
   pub fragment : IsFragment packet

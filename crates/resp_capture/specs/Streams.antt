@@ -1,9 +1,9 @@
 -- The bytes of one side of a connection, put together from segments. A byte has a place, counted from 0.
 use Rattle.std.specs.Prelude.{◌≡◌, ◌⊎◌, ℕ, ◌+◌, ◌%◌, ◌^◌, ◌<◌, ◌≤◌, List, [], length, slice_index, sum_by}
 use Rattle.std.specs.List.{IsAmong}
-use Rattle.resp_capture.specs.declared.held.Held.{Held}
-use Rattle.resp_capture.specs.declared.stream.Taken.{Taken}
-use Rattle.resp_capture.specs.declared.stream.Taken.TheVariants.{Given, Waits}
+use Rattle.resp_capture.specs.declared.held.WaitingPart.{WaitingPart}
+use Rattle.resp_capture.specs.declared.stream.Placed.{Placed}
+use Rattle.resp_capture.specs.declared.stream.Placed.TheVariants.{Given, Waits}
 
 -- the state of a stream
 pub record StreamState : Type 0 where
@@ -12,7 +12,7 @@ pub record StreamState : Type 0 where
   -- the place of the next byte
   pub next : ℕ
   -- the parts that wait for bytes before them
-  pub held : List Held
+  pub held : List WaitingPart
 
 -- the byte at this place, among bytes of which the first has the place `at`
 pub record StandsIn (at : ℕ) (bytes : List ℕ) (place byte : ℕ) : Type 0 where
@@ -22,13 +22,13 @@ pub record StandsIn (at : ℕ) (bytes : List ℕ) (place byte : ℕ) : Type 0 wh
   pub byte_is : byte ≡ slice_index bytes index
 
 -- the byte at this place is one of a part that waits
-pub record IsHeld (held : List Held) (place byte : ℕ) : Type 0 where
-  pub part : Held
+pub record IsHeld (held : List WaitingPart) (place byte : ℕ) : Type 0 where
+  pub part : WaitingPart
   pub among : IsAmong held part
   pub stands : StandsIn part.at part.bytes.items place byte
 
 -- some byte at this place waits
-pub record Holds (held : List Held) (place : ℕ) : Type 0 where
+pub record Holds (held : List WaitingPart) (place : ℕ) : Type 0 where
   pub byte : ℕ
   pub is_held : IsHeld held place byte
 
@@ -37,8 +37,8 @@ abbrev pub Covers : ℕ → ℕ → ℕ → Type 0
 Covers at count place = (at ≤ place) × (place < at + count)
 
 -- the number of bytes that wait
-abbrev pub held_bytes : List Held → ℕ
-held_bytes held = sum_by (λ (part : Held). length part.bytes.items) held
+abbrev pub held_bytes : List WaitingPart → ℕ
+held_bytes held = sum_by (λ (part : WaitingPart). length part.bytes.items) held
 
 -- the place is one of the byte with this sequence number: less than 2^31 bytes after the next byte, or at most 2^31 before it
 pub record IsPlaceOf (stream : StreamState) (sequence place : ℕ) : Type 0 where
@@ -74,11 +74,11 @@ pub record Skips (old new : StreamState) (missing : ℕ) : Type 0 where
 
 -- each part that waits begins after the next byte
 abbrev pub WaitsForOthers : StreamState → Type 0
-WaitsForOthers stream = (part : Held) → IsAmong stream.held part → stream.next < part.at
+WaitsForOthers stream = (part : WaitingPart) → IsAmong stream.held part → stream.next < part.at
 
 -- a part that waits begins at the next byte or before it
 pub record HasReadyPart (stream : StreamState) : Type 0 where
-  pub part : Held
+  pub part : WaitingPart
   pub among : IsAmong stream.held part
   pub ready : part.at ≤ stream.next
 
@@ -87,6 +87,6 @@ abbrev pub IsFull : StreamState → ℕ → List ℕ → Type 0
 IsFull stream at bytes = (stream.next < at) × ((1024 ≤ length stream.held) ⊎ (1048576 < held_bytes stream.held + length bytes))
 
 -- the bytes that a segment gave
-abbrev pub given_of : Taken → List ℕ
+abbrev pub given_of : Placed → List ℕ
 given_of (Given bytes) = bytes.now
 given_of Waits = []

@@ -5,9 +5,9 @@ use Rattle.resp_capture.specs.Frames.{IsTime}
 use Rattle.resp_capture.specs.Headers.{IsFour, link_of}
 use Rattle.resp_capture.specs.Numbers.{number16, number32}
 use Rattle.resp_capture.specs.Segments.{HasSegment}
-use Rattle.resp_capture.specs.declared.address.Address.{Address}
-use Rattle.resp_capture.specs.declared.address.Address.TheVariants.{Four, Six}
-use Rattle.resp_capture.specs.declared.link.Link.TheVariants.{Raw}
+use Rattle.resp_capture.specs.declared.address.IpAddress.{IpAddress}
+use Rattle.resp_capture.specs.declared.address.IpAddress.TheVariants.{Four, Six}
+use Rattle.resp_capture.specs.declared.link.LinkType.TheVariants.{Raw}
 use Rattle.resp_capture.specs.declared.number.ByteOrder.TheVariants.{Big}
 use Rattle.resp_capture.specs.declared.time.Time.{Time}
 use Rattle.resp_capture.specs.declared.transport.Segment.{Segment}
@@ -19,7 +19,7 @@ pub record IsFileHead (bytes : List ℕ) : Type 0 where
   pub link_is : link_of (number32 Big 20 bytes % 65536) ≡ Some Raw
 
 -- the address is of version 4
-abbrev pub IsAddressFour : Address → Type 0
+abbrev pub IsAddressFour : IpAddress → Type 0
 IsAddressFour (Four number) = Unit {0}
 IsAddressFour (Six high low) = ⊥
 

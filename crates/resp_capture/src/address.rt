@@ -2,7 +2,7 @@
 
 /// An address of version 4 or version 6 of the internet protocol, as a number.
 #[derive(Clone, Copy, Debug, PartialEq, Eq, PartialOrd, Ord)]
-pub enum Address {
+pub enum IpAddress {
     /// The four bytes.
     Four(u32),
     /// The sixteen bytes, in two halves.
@@ -12,6 +12,6 @@ pub enum Address {
 /// An end of a connection.
 #[derive(Clone, Copy, Debug, PartialEq, Eq, PartialOrd, Ord)]
 pub struct Endpoint {
-    pub address: Address,
+    pub address: IpAddress,
     pub port: u16,
 }

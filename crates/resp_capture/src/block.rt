@@ -6,31 +6,31 @@ ghost use Rattle.resp_capture.specs.Blocks.{block_size_said, checked_size, first
 use crate::error::Reason;
 use crate::number::{ByteOrder, number32};
 
-/// The most bytes of a block.
+/// The maximum number of bytes of a block.
 pub const MOST_BLOCK: usize = 1_048_576;
 
-/// The type of a section header block of pcapng.
+/// The type of a pcapng section header block.
 pub(crate) const SECTION: u32 = 0x0a0d_0d0a;
 
-/// What is known of a file.
+/// What is known about a file.
 #[derive(Clone, Copy, Debug, PartialEq, Eq)]
 pub(crate) enum Format {
     /// Nothing.
     Unknown,
-    /// It is of the format pcap. Its numbers have this order.
+    /// It is a pcap file. Its numbers have this order.
     Pcap(ByteOrder),
-    /// It is of the format pcapng. The numbers of the section have this order.
+    /// It is a pcapng file. The numbers of the section have this order.
     Pcapng(ByteOrder),
 }
 
-/// The order of the numbers of a file of pcap, and the ticks of a second.
+/// The order of the numbers of a pcap file, and the ticks of a second.
 #[derive(Clone, Copy, Debug, PartialEq, Eq)]
 pub(crate) struct Magic {
     pub(crate) order: ByteOrder,
     pub(crate) per_second: u32,
 }
 
-/// Returns what the first number of a file of pcap says, or `None` if the file is not of pcap.
+/// Returns what the first number of a pcap file says, or `None` if the file is not a pcap file.
 pub(crate) fn magic_of(number: u32) -> Option<Magic>
     ensures { result ≡ magic_of number }
 {
@@ -67,7 +67,7 @@ pub(crate) fn section_order(number: u32) -> Option<ByteOrder>
     }
 }
 
-/// Returns the number of bytes of a block of pcapng, which its head says.
+/// Returns the number of bytes of a pcapng block, as its head says.
 fn checked_size(size: u32) -> Result<usize, Reason>
     ensures size { result ≡ checked_size size }
     ensures bounded { IfOk result (λ size. size ≤ 1048576) }
@@ -82,7 +82,7 @@ fn checked_size(size: u32) -> Result<usize, Reason>
     }
 }
 
-/// Returns the number of bytes of a block of pcapng that begins with these bytes. Its numbers have
+/// Returns the number of bytes of a pcapng block that begins with these bytes. Its numbers have
 /// this order, unless it begins a section.
 fn block_size_said(order: ByteOrder, bytes: &[u8]) -> Result<usize, Reason>
     requires { 12 ≤ length bytes.now }
@@ -98,8 +98,8 @@ fn block_size_said(order: ByteOrder, bytes: &[u8]) -> Result<usize, Reason>
     }
 }
 
-/// Returns the number of bytes of a block of pcapng that begins with these bytes, or of as many as
-/// say it.
+/// Returns the number of bytes of a pcapng block that begins with these bytes, or the number of
+/// bytes that are needed to know that.
 fn pcapng_size(order: ByteOrder, bytes: &[u8]) -> Result<usize, Reason>
     ensures size { result ≡ pcapng_size order bytes.now }
     ensures bounded { IfOk result (λ size. size ≤ 1048576) }
@@ -111,8 +111,8 @@ fn pcapng_size(order: ByteOrder, bytes: &[u8]) -> Result<usize, Reason>
     }
 }
 
-/// Returns the number of bytes of a record of pcap that begins with these bytes, or of as many as
-/// say it.
+/// Returns the number of bytes of a pcap record that begins with these bytes, or the number of
+/// bytes that are needed to know that.
 fn record_size(order: ByteOrder, bytes: &[u8]) -> Result<usize, Reason>
     ensures size { result ≡ record_size order bytes.now }
     ensures bounded { IfOk result (λ size. size ≤ 1048576) }
@@ -128,8 +128,8 @@ fn record_size(order: ByteOrder, bytes: &[u8]) -> Result<usize, Reason>
     }
 }
 
-/// Returns the number of bytes of the first block of a file that begins with these bytes, or of as
-/// many as say it.
+/// Returns the number of bytes of the first block of a file that begins with these bytes, or the
+/// number of bytes that are needed to know that.
 fn first_size(bytes: &[u8]) -> Result<usize, Reason>
     ensures size { result ≡ first_size bytes.now }
     ensures bounded { IfOk result (λ size. size ≤ 1048576) }
@@ -147,8 +147,8 @@ fn first_size(bytes: &[u8]) -> Result<usize, Reason>
     }
 }
 
-/// Returns the number of bytes of a block that begins with these bytes, or of as many of its bytes
-/// as say it.
+/// Returns the number of bytes of a block that begins with these bytes, or the number of bytes that
+/// are needed to know that.
 pub(crate) fn block_size(format: Format, bytes: &[u8]) -> Result<usize, Reason>
     ensures size { result ≡ size_of format bytes.now }
     ensures bounded { IfOk result (λ size. size ≤ 1048576) }

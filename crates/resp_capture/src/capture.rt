@@ -1,4 +1,4 @@
-//! The packets of a capture that comes in pieces.
+//! The packets of a capture that arrives in pieces.
 
 ghost use Rattle.std.specs.Prelude.{◌≡◌, ◌+◌, ◌<◌, ◌≤◌, ◌++◌, [], ◌∷◌, true, false, length, IfErr, IfNone, IfOk, OnOk};
 ghost use Rattle.std.specs.Prelude.{◌⊎◌, None, Some, IfSome, OnErr};
@@ -10,32 +10,32 @@ ghost use Rattle.resp_capture.specs.declared.time.Time.{Time};
 use crate::block::{Format, SECTION, block_size, magic_of, section_order};
 use crate::error::{CaptureError, Reason};
 use crate::interface::Interface;
-use crate::link::Link;
+use crate::link::LinkType;
 use crate::number::{ByteOrder, number32};
 use crate::time::{Time, time_of};
 use std::alloc::Global;
 
-/// The type of a block of pcapng that describes an interface.
+/// The type of a pcapng block that describes an interface.
 const INTERFACE: u32 = 1;
 
-/// The type of a block of pcapng with a packet and no time.
+/// The type of a pcapng block with a packet and no time.
 const SIMPLE: u32 = 3;
 
-/// The type of a block of pcapng with a packet.
+/// The type of a pcapng block with a packet.
 const ENHANCED: u32 = 6;
 
 /// A packet of a capture.
 #[derive(Clone, Copy, Debug, PartialEq, Eq)]
-pub struct Frame<'a> {
+pub struct CapturedPacket<'a> {
     /// The time at which it was captured, if the capture says it.
     pub time: Option<Time>,
-    pub link: Link,
+    pub link: LinkType,
     /// The bytes that were captured, which may be only the first ones of the packet.
     pub bytes: &'a [u8],
 }
 
-/// The packets of a file of the format pcap or pcapng, which comes in pieces of any size. It holds
-/// the bytes of one block, at most 1,048,576.
+/// The packets of a file of the format pcap or pcapng, which arrives in pieces of any size. It
+/// holds the bytes of one block, at most 1,048,576.
 #[derive(Drop)]
 pub struct Capture {
     pub(crate) format: Format,
@@ -51,7 +51,7 @@ pub struct Capture {
 }
 
 impl Capture {
-    /// Returns a capture of which nothing was read. It allocates nothing.
+    /// Returns a capture before anything was read. It allocates nothing.
     pub fn new(alloc: Global) -> Capture
         ensures nothing_read { begun_bytes result ≡ [] }
         ensures unknown { result.format ≡ Format.Unknown }
@@ -99,9 +99,10 @@ impl Capture {
     ///
     /// # Errors
     ///
-    /// Why the file is not read on: the size that a block says is wrong or above 1,048,576 bytes,
-    /// the first block is that of no capture or names a link that is not read, or memory is out. The
-    /// bytes that were read up to there are kept, and each later call fails for the same reason.
+    /// Why reading the file stops: the size that a block says is wrong or above 1,048,576 bytes,
+    /// the first block does not begin a capture or names a link that is not read, or an allocation
+    /// fails. The bytes that were read up to there are kept, and each later call fails for the same
+    /// reason.
     pub fn read(&mut self, piece: &[u8]) -> Result<usize, CaptureError>
         ensures read { IfOk result (λ count. ReadsBlock self.old self.new piece.now count) }
         ensures some { IfOk result (λ count. 0 < length piece.now → 0 < count) }
@@ -214,7 +215,7 @@ impl Capture {
             return self.read_block(ByteOrder::Big);
         };
         let number = number32(magic.order, bytes, 20) % 65_536;
-        let Some(link) = Link::of_number(number) else {
+        let Some(link) = LinkType::of_number(number) else {
             return Err(Reason::UnknownLink(number));
         };
         self.add(Interface::of_pcap(link, magic.per_second))?;
@@ -222,7 +223,7 @@ impl Capture {
         Ok(())
     }
 
-    /// Keeps what a block of pcapng says.
+    /// Keeps what a pcapng block says.
     fn read_block(&mut self, order: ByteOrder) -> Result<(), Reason>
         ensures held { self.new.held.items ≡ self.old.held.items }
         ensures at { self.new.at ≡ self.old.at }
@@ -278,9 +279,9 @@ impl Capture {
     ///
     /// # Errors
     ///
-    /// Why the file is not read on: the block has a fault, so it has no packet. Do not use the
+    /// Why reading the file stops: the block has a fault, so it has no packet. Do not use the
     /// capture afterwards.
-    pub fn frame(&self) -> Result<Option<Frame<'_>>, CaptureError>
+    pub fn frame(&self) -> Result<Option<CapturedPacket<'_>>, CaptureError>
         ensures frame { IfOk result (λ found. IfSome found (HasFrame self.now)) }
         ensures none { IfOk result (λ found. IfNone found (HasNo (HasFrame self.now))) }
         ensures fault { OnErr result (HasNo (HasFrame self.now)) }
@@ -321,12 +322,12 @@ impl Capture {
     }
 }
 
-/// Returns the packet of a record of pcap.
+/// Returns the packet of a pcap record.
 fn record_of<'a>(
     order: ByteOrder,
     interfaces: &[Interface],
     block: &'a [u8],
-) -> Result<Option<Frame<'a>>, Reason>
+) -> Result<Option<CapturedPacket<'a>>, Reason>
     ensures frame { IfOk result (λ found. IfSome found (HasRecord order interfaces.now block.now)) }
     ensures none { IfOk result (λ found. IfNone found
         (HasNo (HasRecord order interfaces.now block.now))) }
@@ -347,19 +348,19 @@ fn record_of<'a>(
         number32(order, block, 4) as u64,
         interface.per_second,
     );
-    Ok(Some(Frame {
+    Ok(Some(CapturedPacket {
         time: Some(time),
         link,
         bytes: &block[16..],
     }))
 }
 
-/// Returns the packet of a block of pcapng, or `None` if it has no packet.
+/// Returns the packet of a pcapng block, or `None` if it has no packet.
 fn frame_of<'a>(
     order: ByteOrder,
     interfaces: &[Interface],
     block: &'a [u8],
-) -> Result<Option<Frame<'a>>, Reason>
+) -> Result<Option<CapturedPacket<'a>>, Reason>
     ensures frame { IfOk result (λ found. IfSome found (IsFrame order interfaces.now block.now)) }
     ensures none { IfOk result (λ found. IfNone found
         (HasNo (IsFrame order interfaces.now block.now))) }
@@ -380,7 +381,7 @@ fn enhanced_of<'a>(
     order: ByteOrder,
     interfaces: &[Interface],
     block: &'a [u8],
-) -> Result<Option<Frame<'a>>, Reason>
+) -> Result<Option<CapturedPacket<'a>>, Reason>
     requires { number32 order 0 block.now ≡ 6 }
     ensures frame { IfOk result (λ found. IfSome found (IsEnhanced order interfaces.now block.now)) }
     ensures none { IfOk result (λ found. IfNone found
@@ -409,7 +410,7 @@ fn with_time<'a>(
     interface: Interface,
     block: &[u8],
     bytes: &'a [u8],
-) -> Option<Frame<'a>>
+) -> Option<CapturedPacket<'a>>
     requires whole { 32 ≤ length block.now }
     requires ticks { 0 < interface.per_second }
     ensures none { IfNone result (interface.link ≡ None) }
@@ -420,7 +421,7 @@ fn with_time<'a>(
     let link = interface.link?;
     let high = number32(order, block, 12) as u64;
     let ticks = high * 4_294_967_296 + number32(order, block, 16) as u64;
-    Some(Frame {
+    Some(CapturedPacket {
         time: Some(time_of(0, ticks, interface.per_second)),
         link,
         bytes,
@@ -432,7 +433,7 @@ fn simple_of<'a>(
     order: ByteOrder,
     interfaces: &[Interface],
     block: &'a [u8],
-) -> Result<Option<Frame<'a>>, Reason>
+) -> Result<Option<CapturedPacket<'a>>, Reason>
     requires { number32 order 0 block.now ≡ 3 }
     ensures frame { IfOk result (λ found. IfSome found (IsSimple order interfaces.now block.now)) }
     ensures none { IfOk result (λ found. IfNone found
@@ -449,15 +450,15 @@ fn simple_of<'a>(
         return Ok(None);
     };
     let count = simple_count(order, interface.most, block);
-    Ok(Some(Frame {
+    Ok(Some(CapturedPacket {
         time: None,
         link,
         bytes: &block[12..12 + count],
     }))
 }
 
-/// Returns the number of bytes of the packet of a simple packet block, of which at most so many
-/// were captured, or all with 0.
+/// Returns the number of bytes of the packet of a simple packet block, of which at most `most` were
+/// captured, or all with 0.
 fn simple_count(order: ByteOrder, most: u32, block: &[u8]) -> usize
     requires { 16 ≤ length block.now }
     ensures count { result ≡ simple_count order most block.now }

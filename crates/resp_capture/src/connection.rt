@@ -6,7 +6,7 @@ ghost use Rattle.resp_capture.specs.Streams.{HasReadyPart, Skips, TakesHeld, Wai
 
 use crate::address::Endpoint;
 use crate::error::StreamError;
-use crate::stream::{Stream, Taken};
+use crate::stream::{Placed, Reassembly};
 use crate::transport::Segment;
 use bytes::BytesMut;
 use std::alloc::Global;
@@ -20,22 +20,22 @@ pub enum End {
 
 /// The bytes that one end sends.
 #[derive(Drop)]
-pub(crate) struct Side {
-    pub(crate) stream: Stream,
-    /// Whether a segment has come.
+pub(crate) struct SentSide {
+    pub(crate) stream: Reassembly,
+    /// Whether a segment has arrived.
     pub(crate) is_begun: bool,
-    /// The place after the last byte, if the last segment has come.
+    /// The place after the last byte, if the last segment has arrived.
     pub(crate) last: Option<u64>,
 }
 
 /// A connection of a capture, with both sides.
 #[derive(Drop)]
-pub struct Connection {
+pub struct CapturedConnection {
     alloc: Global,
     pub(crate) client: Endpoint,
     pub(crate) server: Endpoint,
-    pub(crate) to_server: Side,
-    pub(crate) to_client: Side,
+    pub(crate) to_server: SentSide,
+    pub(crate) to_client: SentSide,
 }
 
 /// Returns whether the receiver of a segment is the server: the receiver of the first segment of a
@@ -69,32 +69,32 @@ fn first_of(segment: &Segment<'_>) -> u32
     segment.sequence.wrapping_add(before)
 }
 
-impl Side {
-    /// Returns a side of which nothing has come.
-    fn new(alloc: Global) -> Side
+impl SentSide {
+    /// Returns a side that has received nothing.
+    fn new(alloc: Global) -> SentSide
         ensures { IsNewSide result }
     {
-        Side {
-            stream: Stream::new(alloc, 0),
+        SentSide {
+            stream: Reassembly::new(alloc, 0),
             is_begun: false,
             last: None,
         }
     }
 
-    /// Begins the side with this sequence number, if nothing has come.
+    /// Begins the side with this sequence number, if nothing has arrived.
     fn begin(&mut self, alloc: Global, first: u32)
         ensures stream { self.new.stream ≡ begun_stream self.old first }
         ensures begun { self.new.is_begun ≡ true }
         ensures same_last { self.new.last ≡ self.old.last }
     {
         if !self.is_begun {
-            self.stream = Stream::new(alloc, first);
+            self.stream = Reassembly::new(alloc, first);
             self.is_begun = true;
         }
     }
 
     /// Takes a segment.
-    fn take<'a>(&mut self, alloc: Global, segment: &Segment<'a>) -> Result<Taken<'a>, StreamError>
+    fn take<'a>(&mut self, alloc: Global, segment: &Segment<'a>) -> Result<Placed<'a>, StreamError>
         ensures takes { IfOk result (λ taken. TakesInSide self.old self.new segment.now taken) }
         ensures refused { OnErr result (self.new.stream ≡
             begun_stream self.old (first_number segment.now)) }
@@ -113,20 +113,20 @@ impl Side {
     }
 }
 
-impl Connection {
-    /// Returns a connection of which no segment has come. It allocates nothing.
-    pub fn new(alloc: Global, client: Endpoint, server: Endpoint) -> Connection
+impl CapturedConnection {
+    /// Returns a connection without segments. It allocates nothing.
+    pub fn new(alloc: Global, client: Endpoint, server: Endpoint) -> CapturedConnection
         ensures client { result.client ≡ client }
         ensures server { result.server ≡ server }
         ensures to_server { IsNewSide result.to_server }
         ensures to_client { IsNewSide result.to_client }
     {
-        Connection {
+        CapturedConnection {
             alloc,
             client,
             server,
-            to_server: Side::new(alloc),
-            to_client: Side::new(alloc),
+            to_server: SentSide::new(alloc),
+            to_client: SentSide::new(alloc),
         }
     }
 
@@ -173,8 +173,8 @@ impl Connection {
     /// # Errors
     ///
     /// Those of [`Stream::take`], and `TooFar` if the segment is before the beginning. The bytes
-    /// that were given and that wait are those of before.
-    pub fn take<'a>(&mut self, end: End, segment: &Segment<'a>) -> Result<Taken<'a>, StreamError>
+    /// that were given and the bytes that wait are unchanged.
+    pub fn take<'a>(&mut self, end: End, segment: &Segment<'a>) -> Result<Placed<'a>, StreamError>
         ensures takes { IfOk result (λ taken. TakesInSide (side_of self.old end)
             (side_of self.new end) segment.now taken) }
         ensures refused { OnErr result ((side_of self.new end).stream ≡
@@ -188,7 +188,7 @@ impl Connection {
         }
     }
 
-    /// Returns the bytes that this end sent before, and that wait no more. Call it after each
+    /// Returns the bytes that this end sent before, and that no longer wait. Call it after each
     /// segment until it returns `None`.
     pub fn next_held(&mut self, end: End) -> Option<BytesMut>
         ensures held { IfSome result (λ given. TakesHeld (side_of self.old end).stream
@@ -205,8 +205,8 @@ impl Connection {
         }
     }
 
-    /// Passes over the bytes of this end that are missing before the first part that waits, and
-    /// returns their number. Returns `None` if no part waits.
+    /// Skips the bytes of this end that are missing before the first part that waits, and returns
+    /// their number. Returns `None` if no part waits.
     pub fn skip(&mut self, end: End) -> Option<u64>
         ensures skips { IfSome result (λ missing. Skips (side_of self.old end).stream
             (side_of self.new end).stream missing) }
@@ -222,8 +222,8 @@ impl Connection {
         }
     }
 
-    /// Returns how many bytes of this end are missing before its last segment, or `None` if none are
-    /// missing or that segment has not come. Bytes that wait count as missing too.
+    /// Returns how many bytes of this end are missing before its last segment, or `None` if none
+    /// are missing or that segment has not arrived. Bytes that wait count as missing too.
     pub fn missing_to_end(&self, end: End) -> Option<u64>
         ensures some { IfSome result (λ missing. LacksToEnd (side_of self.now end) missing) }
         ensures none { IfNone result ((missing : ℕ) →

@@ -16,7 +16,7 @@ pub enum StreamError {
     OutOfMemory,
 }
 
-/// Why a file is not read on.
+/// Why reading a file stops.
 #[derive(Clone, Copy, Debug, PartialEq, Eq, Error)]
 pub enum Reason {
     /// The file does not begin as pcap or pcapng do.
@@ -34,7 +34,7 @@ pub enum Reason {
     /// A packet names an interface that was not described.
     #[error("a packet has an interface that the file does not describe")]
     UnknownInterface,
-    /// A second of the times of an interface has too many parts: more than 2^63, or 10^20 or more.
+    /// The times of an interface are too fine: a second has more than 2^63 parts, or 10^20 or more.
     #[error("the times of an interface have too many digits")]
     UnknownResolution,
     /// The file ends inside a block.
@@ -45,7 +45,7 @@ pub enum Reason {
     OutOfMemory,
 }
 
-/// Why a file is not read on, and the byte of the file at which the block begins, counted from 0.
+/// Why reading a file stops, and the byte of the file at which the block begins, counted from 0.
 #[derive(Clone, Copy, Debug, PartialEq, Eq, Error)]
 #[error("{reason}, at byte {at}")]
 pub struct CaptureError {

@@ -7,7 +7,7 @@ use bytes::BytesMut;
 
 /// A part of a side that waits for bytes before it.
 #[derive(Debug, Drop)]
-pub(crate) struct Held {
+pub(crate) struct WaitingPart {
     /// The place of its first byte.
     pub(crate) at: u64,
     pub(crate) bytes: BytesMut,

@@ -5,7 +5,7 @@ ghost use Rattle.resp_capture.specs.Frames.{HasResolution, ticks_of};
 ghost use Rattle.resp_capture.specs.Headers.{link_of};
 ghost use Rattle.resp_capture.specs.Numbers.{number16, number32};
 
-use crate::link::Link;
+use crate::link::LinkType;
 use crate::number::{ByteOrder, number16, number32};
 
 /// The ticks of a second, if the capture does not say them.
@@ -18,10 +18,10 @@ const RESOLUTION: u16 = 9;
 #[derive(Clone, Copy, Debug, PartialEq, Eq)]
 pub(crate) struct Interface {
     /// The link of its packets, if it is read.
-    pub(crate) link: Option<Link>,
+    pub(crate) link: Option<LinkType>,
     /// The ticks of a second of its times, at least 1; 0 if they have too many digits.
     pub(crate) per_second: u64,
-    /// The most bytes of a packet that were captured.
+    /// The maximum number of bytes of a packet that were captured.
     pub(crate) most: u32,
 }
 
@@ -74,8 +74,8 @@ fn ticks_in(order: ByteOrder, options: &[u8]) -> u64
 }
 
 impl Interface {
-    /// Returns the interface of a file of pcap.
-    pub(crate) fn of_pcap(link: Link, per_second: u32) -> Interface
+    /// Returns the interface of a pcap file.
+    pub(crate) fn of_pcap(link: LinkType, per_second: u32) -> Interface
         ensures link { result.link ≡ Some link }
         ensures ticks { result.per_second ≡ per_second }
     {
@@ -86,7 +86,7 @@ impl Interface {
         }
     }
 
-    /// Returns the interface that a block of pcapng describes, which has at least 20 bytes.
+    /// Returns the interface that a pcapng block describes, which has at least 20 bytes.
     pub(crate) fn of_block(order: ByteOrder, block: &[u8]) -> Interface
         requires { 20 ≤ length block.now }
         ensures link { result.link ≡ link_of (number16 order 8 block.now) }
@@ -98,7 +98,7 @@ impl Interface {
     {
         let options = &block[16..block.len() - 4];
         Interface {
-            link: Link::of_number(number16(order, block, 8) as u32),
+            link: LinkType::of_number(number16(order, block, 8) as u32),
             per_second: ticks_in(order, options),
             most: number32(order, block, 12),
         }

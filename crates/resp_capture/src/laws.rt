@@ -3,9 +3,10 @@
 ghost use Rattle.resp_capture.specs.Histories.{BeginsTrue, StaysTrueOfHeld, StaysTrueOfMissing, StaysTrueOfSegments};
 ghost use Rattle.resp_capture.specs.Writing.{SegmentsAreReadBack, TimesAreReadBack};
 
-/// What a stream has told is true of the segments that have come: each byte that was told is a byte
-/// of a segment, at its place; no place is told twice; and a byte that has come was told, or a byte
-/// of its place was, or waits. Bytes are told as missing only if none of them has come.
+/// What a stream has reported is true of the segments that have arrived: each byte that was
+/// reported is a byte of a segment, at its place; no place is reported twice; and for each byte
+/// that has arrived, this byte or another byte at its place was reported, or it waits. Bytes are
+/// reported as missing only if none of them has arrived.
 pub fn told_bytes_have_come()
     ensures begins { BeginsTrue }
     ensures segments { StaysTrueOfSegments }

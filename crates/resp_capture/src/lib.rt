@@ -1,8 +1,8 @@
 //! Captures of traffic over TCP, without files and sockets.
 //!
 //! [`Capture`] reads the blocks of a pcap or pcapng file that comes in pieces of any size, and
-//! returns the packets. [`packet::read_packet`] finds the TCP segment of a packet. [`Stream`] puts
-//! the segments of one side of a connection together, and [`Connection`] has both sides. [`record`]
+//! returns the packets. [`packet::read_packet`] finds the TCP segment of a packet. [`Reassembly`] puts
+//! the segments of one side of a connection together, and [`CapturedConnection`] has both sides. [`record`]
 //! writes a pcap file.
 #![tactic(auto)]
 
@@ -24,13 +24,13 @@ pub mod stream;
 pub mod time;
 pub mod transport;
 
-pub use address::{Address, Endpoint};
-pub use capture::{Capture, Frame};
-pub use connection::{Connection, End, is_to_server};
+pub use address::{Endpoint, IpAddress};
+pub use capture::{Capture, CapturedPacket};
+pub use connection::{CapturedConnection, End, is_to_server};
 pub use error::{CaptureError, Reason, StreamError};
-pub use link::Link;
+pub use link::LinkType;
 pub use packet::Packet;
-pub use recorded::{Recorded, Sent};
-pub use stream::{Stream, Taken};
+pub use recorded::{Recorded, SegmentKind};
+pub use stream::{Placed, Reassembly};
 pub use time::Time;
 pub use transport::Segment;

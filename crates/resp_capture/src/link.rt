@@ -1,4 +1,4 @@
-//! The frames of a link, which carry packets of the internet protocol.
+//! Link-layer frames, which carry IP packets.
 
 ghost use Rattle.std.specs.Prelude.{◌≡◌, ℕ, ◌+◌, ◌≤◌, List, length, drop, IfNone, IfSome};
 ghost use Rattle.resp_capture.specs.Headers.{CarriesPacket, IsTyped, is_internet, is_tag, link_of, type_place};
@@ -7,7 +7,7 @@ use crate::number::{ByteOrder, number16};
 
 /// How the packets of a capture begin.
 #[derive(Clone, Copy, Debug, PartialEq, Eq)]
-pub enum Link {
+pub enum LinkType {
     /// Number 0, the loopback of BSD and of macOS: four bytes, and the packet.
     Loopback,
     /// Number 1, Ethernet: 14 bytes, or 18 or 22 with tags of virtual networks.
@@ -20,17 +20,17 @@ pub enum Link {
     CookedTwo,
 }
 
-impl Link {
+impl LinkType {
     /// Returns the link of this number, if it is read.
-    pub fn of_number(number: u32) -> Option<Link>
+    pub fn of_number(number: u32) -> Option<LinkType>
         ensures { result ≡ link_of number }
     {
         match number {
-            0 => Some(Link::Loopback),
-            1 => Some(Link::Ethernet),
-            101 => Some(Link::Raw),
-            113 => Some(Link::Cooked),
-            276 => Some(Link::CookedTwo),
+            0 => Some(LinkType::Loopback),
+            1 => Some(LinkType::Ethernet),
+            101 => Some(LinkType::Raw),
+            113 => Some(LinkType::Cooked),
+            276 => Some(LinkType::CookedTwo),
             _ => None,
         }
     }
@@ -50,7 +50,7 @@ fn is_internet(number: u16) -> bool
     number == 0x0800 || number == 0x86dd
 }
 
-/// Returns where the type of a frame of Ethernet is, after at most two tags.
+/// Returns where the type of an Ethernet frame is, after at most two tags.
 fn type_place(frame: &[u8]) -> usize
     requires { 22 ≤ length frame.now }
     ensures place { result ≡ type_place frame.now }
@@ -65,7 +65,7 @@ fn type_place(frame: &[u8]) -> usize
     }
 }
 
-/// Returns the packet after a head of so many bytes, with the type at this place of it.
+/// Returns the packet after a head of `head` bytes, with the type at this place of it.
 fn after_type(frame: &[u8], place: usize, head: usize) -> Option<&[u8]>
     requires { place + 2 ≤ head }
     ensures some { IfSome result (λ packet. IsTyped place head frame.now packet.now) }
@@ -77,11 +77,11 @@ fn after_type(frame: &[u8], place: usize, head: usize) -> Option<&[u8]>
     Some(&frame[head..])
 }
 
-/// Returns the packet that a frame of Ethernet carries.
+/// Returns the packet that an Ethernet frame carries.
 fn after_ethernet(frame: &[u8]) -> Option<&[u8]>
-    ensures some { IfSome result (λ packet. CarriesPacket Link.Ethernet frame.now packet.now) }
+    ensures some { IfSome result (λ packet. CarriesPacket LinkType.Ethernet frame.now packet.now) }
     ensures none { IfNone result ((packet : List ℕ) →
-        CarriesPacket Link.Ethernet frame.now packet → ⊥) }
+        CarriesPacket LinkType.Ethernet frame.now packet → ⊥) }
 {
     if frame.len() < 22 {
         return None;
@@ -90,18 +90,17 @@ fn after_ethernet(frame: &[u8]) -> Option<&[u8]>
     after_type(frame, place, place + 2)
 }
 
-/// Returns the packet of the internet protocol that a frame carries, or `None` if it carries
-/// something else.
-pub(crate) fn packet_of(link: Link, frame: &[u8]) -> Option<&[u8]>
+/// Returns the IP packet that a frame carries, or `None` if it carries something else.
+pub(crate) fn packet_of(link: LinkType, frame: &[u8]) -> Option<&[u8]>
     ensures some { IfSome result (λ packet. CarriesPacket link frame.now packet.now) }
     ensures none { IfNone result ((packet : List ℕ) → CarriesPacket link frame.now packet → ⊥) }
 {
     match link {
-        Link::Loopback if frame.len() < 4 => None,
-        Link::Loopback => Some(&frame[4..]),
-        Link::Ethernet => after_ethernet(frame),
-        Link::Raw => Some(frame),
-        Link::Cooked => after_type(frame, 14, 16),
-        Link::CookedTwo => after_type(frame, 0, 20),
+        LinkType::Loopback if frame.len() < 4 => None,
+        LinkType::Loopback => Some(&frame[4..]),
+        LinkType::Ethernet => after_ethernet(frame),
+        LinkType::Raw => Some(frame),
+        LinkType::Cooked => after_type(frame, 14, 16),
+        LinkType::CookedTwo => after_type(frame, 0, 20),
     }
 }

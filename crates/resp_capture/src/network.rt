@@ -1,10 +1,10 @@
-//! Packets of the internet protocol, which carry TCP.
+//! IP packets, which carry TCP.
 
 ghost use Rattle.std.specs.Prelude.{◌≡◌, ◌⊎◌, ℕ, ◌+◌, ◌*◌, ◌<◌, ◌≤◌, List, length, IfNone, IfSome, IsTrue, ◌↔◌};
 ghost use Rattle.resp_capture.specs.Headers.{CarriesFour, CarriesSix, IsExtension, IsFour, IsFragment, IsFragmentFour, IsSix, IsFragmentSix, Reaches, address_six, end_four, end_six, extension_size, head_four, is_extension};
-ghost use Rattle.resp_capture.specs.declared.address.Address.{Address};
+ghost use Rattle.resp_capture.specs.declared.address.IpAddress.{IpAddress};
 
-use crate::address::Address;
+use crate::address::IpAddress;
 use crate::number::{ByteOrder, number16, number32, number64};
 
 /// The number of TCP among the protocols.
@@ -13,18 +13,18 @@ pub(crate) const TCP: u8 = 6;
 /// The number of the header of a fragment among those of version 6.
 const FRAGMENT: u8 = 44;
 
-/// The most headers of version 6 before the protocol.
+/// The maximum number of IPv6 headers before the protocol.
 const MOST_HEADERS: u8 = 8;
 
 /// The bytes that a packet carries from one address to another.
 #[derive(Clone, Copy, Debug, PartialEq, Eq)]
-pub(crate) struct Carried<'a> {
-    pub(crate) from: Address,
-    pub(crate) to: Address,
+pub(crate) struct IpPayload<'a> {
+    pub(crate) from: IpAddress,
+    pub(crate) to: IpAddress,
     pub(crate) bytes: &'a [u8],
 }
 
-/// Returns the end of a packet of version 4 among the bytes that were captured.
+/// Returns the end of an IPv4 packet among the bytes that were captured.
 fn end_four(packet: &[u8]) -> usize
     requires { 20 ≤ length packet.now }
     ensures end { result ≡ end_four packet.now }
@@ -38,8 +38,8 @@ fn end_four(packet: &[u8]) -> usize
     }
 }
 
-/// Returns the number of bytes of the head of a packet of version 4, or `None` if the bytes are not
-/// such a packet or the head is cut off.
+/// Returns the number of bytes of the head of an IPv4 packet, or `None` if the bytes are not such a
+/// packet or the head is cut off.
 fn head_four(packet: &[u8]) -> Option<usize>
     ensures some { IfSome result (λ head. (head ≡ head_four packet.now) × IsFour packet.now) }
     ensures none { IfNone result (IsFour packet.now → ⊥) }
@@ -54,21 +54,20 @@ fn head_four(packet: &[u8]) -> Option<usize>
     Some(head)
 }
 
-/// Returns what a packet of version 4 carries over TCP, or `None` if it is something else or a
-/// fragment.
-pub(crate) fn read_four(packet: &[u8]) -> Option<Carried<'_>>
+/// Returns what an IPv4 packet carries over TCP, or `None` if it is something else or a fragment.
+pub(crate) fn read_four(packet: &[u8]) -> Option<IpPayload<'_>>
     ensures some { IfSome result (λ carried.
         CarriesFour packet.now carried.from carried.to carried.bytes.now) }
-    ensures none { IfNone result ((from to : Address) (bytes : List ℕ) →
+    ensures none { IfNone result ((from to : IpAddress) (bytes : List ℕ) →
         CarriesFour packet.now from to bytes → ⊥) }
 {
     let head = head_four(packet)?;
     if number16(ByteOrder::Big, packet, 6) % 16_384 != 0 || packet[9] != TCP {
         return None;
     }
-    Some(Carried {
-        from: Address::Four(number32(ByteOrder::Big, packet, 12)),
-        to: Address::Four(number32(ByteOrder::Big, packet, 16)),
+    Some(IpPayload {
+        from: IpAddress::Four(number32(ByteOrder::Big, packet, 12)),
+        to: IpAddress::Four(number32(ByteOrder::Big, packet, 16)),
         bytes: &packet[head..end_four(packet)],
     })
 }
@@ -101,8 +100,8 @@ fn extension_size(bytes: &[u8]) -> Option<usize>
     if size > bytes.len() { None } else { Some(size) }
 }
 
-/// Returns the number of the protocol after the headers of version 6, and its bytes. At most `most`
-/// headers come before it. Returns `None` if there are more, or a header is cut off.
+/// Returns the number of the protocol after the IPv6 headers, and its bytes. At most `most` headers
+/// come before it. Returns `None` if there are more, or a header is cut off.
 fn after_headers(most: u8, next: u8, bytes: &[u8]) -> Option<(u8, &[u8])>
     ensures some { IfSome result (λ found. Reaches most next bytes.now found.0 found.1.now) }
     ensures none { IfNone result ((protocol : ℕ) (rest : List ℕ) →
@@ -118,7 +117,7 @@ fn after_headers(most: u8, next: u8, bytes: &[u8]) -> Option<(u8, &[u8])>
     after_headers(most - 1, bytes[0], &bytes[size..])
 }
 
-/// Returns the end of a packet of version 6 among the bytes that were captured.
+/// Returns the end of an IPv6 packet among the bytes that were captured.
 fn end_six(packet: &[u8]) -> usize
     requires { 40 ≤ length packet.now }
     ensures end { result ≡ end_six packet.now }
@@ -133,7 +132,7 @@ fn end_six(packet: &[u8]) -> usize
     }
 }
 
-/// Returns the number of the protocol that a packet of version 6 carries, and its bytes.
+/// Returns the number of the protocol that an IPv6 packet carries, and its bytes.
 pub(crate) fn read_six(packet: &[u8]) -> Option<(u8, &[u8])>
     ensures some { IfSome result (λ found. CarriesSix packet.now found.0 found.1.now) }
     ensures none { IfNone result ((protocol : ℕ) (bytes : List ℕ) →
@@ -145,12 +144,12 @@ pub(crate) fn read_six(packet: &[u8]) -> Option<(u8, &[u8])>
     after_headers(MOST_HEADERS, packet[6], &packet[40..end_six(packet)])
 }
 
-/// Returns the address from this byte of a packet of version 6 on.
-pub(crate) fn address_six(packet: &[u8], at: usize) -> Address
+/// Returns the address from this byte of an IPv6 packet on.
+pub(crate) fn address_six(packet: &[u8], at: usize) -> IpAddress
     requires { at + 16 ≤ length packet.now }
     ensures { result ≡ address_six at packet.now }
 {
-    Address::Six {
+    IpAddress::Six {
         high: number64(packet, at),
         low: number64(packet, at + 8),
     }

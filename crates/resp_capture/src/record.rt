@@ -6,14 +6,14 @@
 ghost use Rattle.std.specs.Prelude.{◌≡◌, ◌+◌, ◌/◌, ◌%◌, ◌^◌, ◌≤◌, ◌==◌, ◌++◌, IfNone, IfSome, length, slice_index};
 ghost use Rattle.resp_capture.specs.Numbers.{number16, number32};
 ghost use Rattle.resp_capture.specs.Writing.{CanBeRecorded, IsFileHead, IsRecordOf, words_sum};
-ghost use Rattle.resp_capture.specs.declared.address.Address.TheVariants as address;
+ghost use Rattle.resp_capture.specs.declared.address.IpAddress.TheVariants as address;
 ghost use Rattle.resp_capture.specs.declared.number.ByteOrder.TheVariants as order;
 
-use crate::address::Address;
+use crate::address::IpAddress;
 use crate::time::Time;
 use crate::transport::Segment;
 
-/// The most bytes of a recorded segment.
+/// The maximum number of bytes of a recorded segment.
 pub const MOST_DATA: usize = 65_495;
 
 /// The number of bytes before those of a recorded segment.
@@ -90,8 +90,7 @@ fn time_head(time: Time, count: u32) -> [u8; 16]
     ]
 }
 
-/// Returns the head of a packet of version 4 with this length, which carries TCP and is not a
-/// fragment.
+/// Returns the head of an IPv4 packet with this length, which carries TCP and is not a fragment.
 fn packet_head(length: u16, from: u32, to: u32) -> [u8; 20]
     ensures version { slice_index result 0 ≡ 69 }
     ensures length { number16 order.Big 2 result ≡ length }
@@ -129,7 +128,7 @@ fn segment_head(from: u16, to: u16, sequence: u32, acknowledged: u32, flags: u8)
     ]
 }
 
-/// Returns the heads of a record with this time, of a segment between these addresses of version 4.
+/// Returns the heads of a record with this time, of a segment between these IPv4 addresses.
 fn heads_of(time: Time, segment: &Segment<'_>, acknowledged: u32, from: u32, to: u32) -> [u8; 56]
     requires from { segment.now.from.address ≡ address.Four from }
     requires to { segment.now.to.address ≡ address.Four to }
@@ -159,10 +158,10 @@ pub fn record_head(time: Time, segment: &Segment<'_>, acknowledged: u32) -> Opti
         IsRecordOf (head ++ segment.now.data.now) time segment.now) }
     ensures none { IfNone result (CanBeRecorded segment.now → ⊥) }
 {
-    let Address::Four(from) = segment.from.address else {
+    let IpAddress::Four(from) = segment.from.address else {
         return None;
     };
-    let Address::Four(to) = segment.to.address else {
+    let IpAddress::Four(to) = segment.to.address else {
         return None;
     };
     if segment.data.len() > MOST_DATA {

@@ -10,7 +10,7 @@ use crate::transport::Segment;
 
 /// A segment to be recorded.
 #[derive(Clone, Copy, Debug, PartialEq, Eq)]
-pub enum Sent {
+pub enum SegmentKind {
     /// The first segment of an end, before its bytes.
     Beginning,
     /// Bytes.
@@ -31,7 +31,7 @@ pub struct Recorded {
 }
 
 impl Recorded {
-    /// Returns a connection of which nothing is recorded.
+    /// Returns a connection before anything is recorded.
     pub fn new(client: Endpoint, server: Endpoint) -> Recorded
         ensures client { sender result End.Client ≡ client }
         ensures server { sender result End.Server ≡ server }
@@ -56,10 +56,10 @@ impl Recorded {
         }
     }
 
-    /// Returns the next segment of an end, with these bytes. Its sequence number is that of the next
-    /// byte, and the numbers of later bytes follow those of its bytes. The beginning and the end of
-    /// a side have a number of their own.
-    pub fn next<'a>(&mut self, end: End, sent: Sent, bytes: &'a [u8]) -> Segment<'a>
+    /// Returns the next segment of an end, with these bytes. Its sequence number is that of the
+    /// next byte, and the numbers of later bytes follow those of its bytes. The beginning and the
+    /// end of a side each have their own number.
+    pub fn next<'a>(&mut self, end: End, sent: SegmentKind, bytes: &'a [u8]) -> Segment<'a>
         ensures from { result.from ≡ sender self.old end }
         ensures to { result.to ≡ receiver self.old end }
         ensures sequence { result.sequence ≡ number_of self.old end }
@@ -76,8 +76,8 @@ impl Recorded {
     {
         let (sequence, data) = (self.number(end), bytes);
         let own = match sent {
-            Sent::Beginning | Sent::End => 1,
-            Sent::Bytes | Sent::Reset => 0,
+            SegmentKind::Beginning | SegmentKind::End => 1,
+            SegmentKind::Bytes | SegmentKind::Reset => 0,
         };
         let count = (bytes.len() % 4_294_967_296) as u32;
         let next = sequence.wrapping_add(count).wrapping_add(own);
@@ -93,10 +93,10 @@ impl Recorded {
             from,
             to,
             sequence,
-            begins: sent == Sent::Beginning,
-            acknowledges: sent != Sent::Beginning || end == End::Server,
-            ends: sent == Sent::End,
-            resets: sent == Sent::Reset,
+            begins: sent == SegmentKind::Beginning,
+            acknowledges: sent != SegmentKind::Beginning || end == End::Server,
+            ends: sent == SegmentKind::End,
+            resets: sent == SegmentKind::Reset,
             data,
         }
     }

@@ -2,18 +2,18 @@
 
 ghost use Rattle.std.specs.Prelude.{◌≡◌, ◌≢◌, ◌⊎◌, ℕ, ◌+◌, ◌<◌, ◌≤◌, ◌^◌, [], ◌∷◌, ◌++◌, length, slice_index_or, IfErr, IfOk, IfSome, IfNone, OnErr, OnOk};
 ghost use Rattle.std.specs.List.{IsAmong};
-ghost use Rattle.resp_capture.specs.declared.held.Held.{Held};
+ghost use Rattle.resp_capture.specs.declared.held.WaitingPart.{WaitingPart};
 
 use crate::error::StreamError;
-use crate::held::Held;
+use crate::held::WaitingPart;
 use bytes::BytesMut;
 use std::alloc::Global;
 use std::marker::Model;
 
-/// The most bytes that wait for bytes before them.
+/// The maximum number of bytes that wait for bytes before them.
 pub const MOST_BYTES: usize = 1_048_576;
 
-/// The most parts that wait for bytes before them.
+/// The maximum number of parts that wait for bytes before them.
 pub const MOST_PARTS: usize = 1_024;
 
 /// The bytes of one side of a connection, put together from segments.
@@ -22,18 +22,18 @@ pub const MOST_PARTS: usize = 1_024;
 /// order of their places, each at most once. A segment after a gap waits until the bytes before it
 /// have come. At most [`MOST_BYTES`] bytes in [`MOST_PARTS`] parts wait.
 #[derive(Drop)]
-pub struct Stream {
+pub struct Reassembly {
     alloc: Global,
     /// The sequence number of the byte at place 0.
     first: u32,
     /// The place of the next byte: the bytes before it were given, or are missing.
     next: u64,
-    held: Vec<Held>,
+    held: Vec<WaitingPart>,
     /// The number of bytes that wait.
     size: usize,
 }
 
-impl Model for Stream {
+impl Model for Reassembly {
     ghost use Rattle.std.specs.Prelude.{◌≡◌, ◌≤◌, length};
     ghost use Rattle.resp_capture.specs.Streams.{StreamState, held_bytes};
 
@@ -45,24 +45,24 @@ impl Model for Stream {
         (length s.held.items ≤ 1024) };
 }
 
-/// What became of a segment.
+/// What happened to a segment.
 #[derive(Clone, Copy, Debug, PartialEq, Eq)]
-pub enum Taken<'a> {
+pub enum Placed<'a> {
     /// These bytes of it are the next ones of the side. There are none if all came before.
     Given(&'a [u8]),
     /// It waits for bytes before it.
     Waits,
 }
 
-impl Stream {
+impl Reassembly {
     ghost use Rattle.resp_capture.specs.Streams.{HasReadyPart, IsFull, IsPlaceOf, Skips, TakesHeld, TakesSegment, WaitsForOthers, given_of, held_bytes};
 
-    /// Returns a stream to which no segment has come, of which the byte at place 0 has this
-    /// sequence number. It allocates nothing.
-    pub fn new(alloc: Global, first: u32) -> Stream
+    /// Returns a stream without segments. The byte at place 0 has this sequence number. It
+    /// allocates nothing.
+    pub fn new(alloc: Global, first: u32) -> Reassembly
         ensures { result ≡ record { first = first; next = 0; held = [] } }
     {
-        Stream {
+        Reassembly {
             alloc,
             first,
             next: 0,
@@ -109,10 +109,10 @@ impl Stream {
     ///
     /// `Full` if it has to wait, and there is no room for it; `TooFar` if a place is at or above
     /// 2^64; or `OutOfMemory`. The stream is unchanged.
-    pub fn take<'a>(&mut self, at: u64, bytes: &'a [u8]) -> Result<Taken<'a>, StreamError>
+    pub fn take<'a>(&mut self, at: u64, bytes: &'a [u8]) -> Result<Placed<'a>, StreamError>
         ensures taken { IfOk result (λ taken. TakesSegment self.old self.new at bytes.now
             (given_of taken)) }
-        ensures waits { IfOk result (λ taken. taken ≡ Taken.Waits → self.old.next < at) }
+        ensures waits { IfOk result (λ taken. taken ≡ Placed.Waits → self.old.next < at) }
         ensures refused { OnErr result (self.new ≡ self.old) }
         ensures full { IfErr result (λ error. error ≡ StreamError.Full →
             IsFull self.old at bytes.now) }
@@ -123,15 +123,15 @@ impl Stream {
             return Err(StreamError::TooFar);
         };
         if end <= self.next || bytes.is_empty() {
-            return Ok(Taken::Given(&bytes[bytes.len()..]));
+            return Ok(Placed::Given(&bytes[bytes.len()..]));
         }
         if at <= self.next {
             let rest = &bytes[(self.next - at) as usize..];
             self.next = end;
-            return Ok(Taken::Given(rest));
+            return Ok(Placed::Given(rest));
         }
         self.hold(at, bytes)?;
-        Ok(Taken::Waits)
+        Ok(Placed::Waits)
     }
 
     /// Keeps a segment that waits for bytes before it.
@@ -139,7 +139,7 @@ impl Stream {
         requires fits { at + length bytes.now < 2 ^ 64 }
         ensures first { self.new.first ≡ self.old.first }
         ensures next { self.new.next ≡ self.old.next }
-        ensures held { OnOk result ((part : Held) × (part.at ≡ at) ×
+        ensures held { OnOk result ((part : WaitingPart) × (part.at ≡ at) ×
             (part.bytes.items ≡ bytes.now) × (self.new.held ≡ self.old.held ++ part ∷ [])) }
         ensures refused { OnErr result (self.new ≡ self.old) }
         ensures full { IfErr result (λ error. error ≡ StreamError.Full →
@@ -158,15 +158,15 @@ impl Stream {
         Ok(())
     }
 
-    /// Returns the bytes of a part that waits no more, because the bytes before it have come. There
-    /// are none if all came before. Call it after each segment until it returns `None`.
+    /// Returns the bytes of a part that no longer waits, because the bytes before it have come.
+    /// There are none if all came before. Call it after each segment until it returns `None`.
     pub fn next_held(&mut self) -> Option<BytesMut>
         ensures held { IfSome result (λ given. TakesHeld self.old self.new given.items) }
         ensures none { IfNone result (WaitsForOthers self.old) }
         ensures unchanged { IfNone result (self.new ≡ self.old) }
     {
         let index = first_before(self.held.as_slice(), self.next)?;
-        let Held { at, mut bytes } = self.held.remove(index);
+        let WaitingPart { at, mut bytes } = self.held.remove(index);
         self.size -= bytes.len();
         let old = (self.next - at).min(bytes.len() as u64) as usize;
         bytes.advance(old);
@@ -174,9 +174,8 @@ impl Stream {
         Some(bytes)
     }
 
-    /// Passes over the bytes that are missing before the first part that waits, and returns their
-    /// number. [`next_held`](Stream::next_held) then returns that part. Returns `None` if no part
-    /// waits.
+    /// Skips the bytes that are missing before the first part that waits, and returns their number.
+    /// [`next_held`](Stream::next_held) then returns that part. Returns `None` if no part waits.
     pub fn skip(&mut self) -> Option<u64>
         ensures skips { IfSome result (λ missing. Skips self.old self.new missing) }
         ensures ready { IfSome result (λ missing. HasReadyPart self.new) }
@@ -190,7 +189,7 @@ impl Stream {
 }
 
 /// Returns a part with this place and these bytes.
-fn part_of(alloc: Global, at: u64, bytes: &[u8]) -> Result<Held, StreamError>
+fn part_of(alloc: Global, at: u64, bytes: &[u8]) -> Result<WaitingPart, StreamError>
     requires { at + length bytes.now < 2 ^ 64 }
     ensures at { IfOk result (λ part. part.at ≡ at) }
     ensures bytes { IfOk result (λ part. part.bytes.items ≡ bytes.now) }
@@ -198,23 +197,23 @@ fn part_of(alloc: Global, at: u64, bytes: &[u8]) -> Result<Held, StreamError>
 {
     let mut held = BytesMut::new(alloc);
     match held.extend_from_slice(bytes) {
-        Ok(()) => Ok(Held { at, bytes: held }),
+        Ok(()) => Ok(WaitingPart { at, bytes: held }),
         Err(_) => Err(StreamError::OutOfMemory),
     }
 }
 
 /// Returns the index of the first part that does not begin after this place.
-fn first_before(held: &[Held], place: u64) -> Option<usize>
+fn first_before(held: &[WaitingPart], place: u64) -> Option<usize>
     ensures some { IfSome result (λ index. (index < length held.now) ×
-        ((d : Held) → (slice_index_or held.now index d).at ≤ place)) }
-    ensures none { IfNone result ((part : Held) → IsAmong held.now part → place < part.at) }
+        ((d : WaitingPart) → (slice_index_or held.now index d).at ≤ place)) }
+    ensures none { IfNone result ((part : WaitingPart) → IsAmong held.now part → place < part.at) }
 {
     held.iter().position(|part| part.at <= place)
 }
 
 /// Returns the part with the least place.
-fn least_of(held: &[Held]) -> Option<&Held>
-    ensures least { IfSome result (λ least. (part : Held) → IsAmong held.now part →
+fn least_of(held: &[WaitingPart]) -> Option<&WaitingPart>
+    ensures least { IfSome result (λ least. (part : WaitingPart) → IsAmong held.now part →
         least.now.at ≤ part.at) }
     ensures some { IfSome result (λ least. IsAmong held.now least.now) }
     ensures none { IfNone result (held.now ≡ []) }

@@ -14,8 +14,8 @@ pub struct Time {
     pub nanos: u32,
 }
 
-/// Returns the time of a number of ticks, of which a second has so many, after a number of seconds.
-/// Parts of a nanosecond are dropped.
+/// Returns the time that is a number of ticks after a number of seconds. A second has `per_second`
+/// ticks. Parts of a nanosecond are dropped.
 pub(crate) fn time_of(seconds: u64, ticks: u64, per_second: u64) -> Time
     requires some { 0 < per_second }
     requires fits { seconds + ticks < 2 ^ 64 }

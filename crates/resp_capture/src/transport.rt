@@ -4,10 +4,10 @@ ghost use Rattle.std.specs.Prelude.{◌≡◌, IfNone, IfSome};
 ghost use Rattle.resp_capture.specs.Headers.{IsTcp, head_tcp};
 ghost use Rattle.resp_capture.specs.Segments.{IsSegment};
 
-use crate::address::{Address, Endpoint};
+use crate::address::{Endpoint, IpAddress};
 use crate::number::{ByteOrder, number16, number32};
 
-/// A segment of TCP.
+/// A TCP segment.
 #[derive(Clone, Copy, Debug, PartialEq, Eq)]
 pub struct Segment<'a> {
     pub from: Endpoint,
@@ -43,7 +43,7 @@ fn head_tcp(bytes: &[u8]) -> Option<usize>
 
 /// Returns the segment in the bytes that were sent from one address to another, or `None` if its
 /// head is cut off.
-pub(crate) fn segment_of(from: Address, to: Address, bytes: &[u8]) -> Option<Segment<'_>>
+pub(crate) fn segment_of(from: IpAddress, to: IpAddress, bytes: &[u8]) -> Option<Segment<'_>>
     ensures some { IfSome result (λ segment. IsSegment from to bytes.now segment) }
     ensures none { IfNone result (IsTcp bytes.now → ⊥) }
 {

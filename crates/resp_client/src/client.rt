@@ -40,8 +40,8 @@ impl Client {
     ghost use Rattle.resp_client.specs.Hearing.{HasFault, HasTaken, HasTakenSome, KeepsReading, WhereTaken};
     ghost use Rattle.resp_scan.specs.declared.event.Fault.{Fault};
 
-    /// Makes a client in version 2 with an empty queue, which writes and reads within these limits.
-    /// Does not allocate.
+    /// Creates a client in version 2 with an empty queue, which writes and reads within these
+    /// limits. Does not allocate.
     pub fn new(alloc: Global, limits: &Limits) -> Client
         ensures nothing_sent { state_of result ≡ new_state limits.now }
         ensures nothing_taken { HasTaken result [] }

@@ -96,7 +96,7 @@ impl Client {
         Ok(Heard { used, what })
     }
 
-    /// As [`Client::feed`], but passes each push to the sink and returns [`What::Shown`] for it.
+    /// Like [`Client::feed`], but passes each push to the sink and returns [`What::Shown`] for it.
     ///
     /// # Errors
     ///
@@ -217,7 +217,7 @@ impl Client {
         }
     }
 
-    /// Returns the version in which a value is read that begins now.
+    /// Returns the version in which a value that begins now is read.
     fn reading_version(&self) -> Version
         ensures { result ≡ reading_version (state_of self.now).waiting.version
             (state_of self.now).waiting.asks }

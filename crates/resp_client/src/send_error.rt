@@ -21,7 +21,7 @@ pub enum SendError {
     /// and CLIENT REPLY, in upper, lower or mixed case.
     #[error("the client cannot send this command")]
     BadCommand,
-    /// The command exceeds the client's limit of length, items or total.
+    /// The command exceeds the client's limit `length`, `items` or `total`.
     #[error("the command exceeds a limit")]
     TooLarge,
     /// The client has queued 9,223,372,036,854,775,808 commands, the greatest number.

@@ -40,7 +40,7 @@ pub struct PushList {
 impl PushList {
     ghost use Rattle.resp_client.specs.PushLists.{list_shown};
 
-    /// Makes an empty list. Does not allocate.
+    /// Creates an empty list. Does not allocate.
     pub fn new(alloc: Global) -> PushList
         ensures { list_shown result ≡ [] }
     {

@@ -7,7 +7,7 @@ use Rattle.resp_scan.specs.declared.event.Fault.{Fault}
 use Rattle.resp_decode.specs.Decoding as decoding
 use Rattle.resp_session.specs.Asked.{IfCommand, meaning_in}
 use Rattle.resp_session.specs.Commands.{meaning_of}
-use Rattle.resp_session.specs.declared.words.Asked.{Asked}
+use Rattle.resp_session.specs.declared.words.Requested.{Requested}
 use Rattle.tokio_util.specs.Codec.Next.{Gives}
 use Rattle.resp_codec.specs.Next.{ItemReading, gives_by}
 use Rattle.resp_codec.specs.Values.{RefusesToWrite, Settings, Writes, reading_with}
@@ -37,15 +37,15 @@ pub record ReadsLike (old new : CommandCodec) : Type 0 where
   pub rules : reads_by new ≡ reads_by old
 
 -- the value makes this request, and a command has a name
-abbrev pub Asks : Asked → Datum → Type 0
+abbrev pub Asks : Requested → Datum → Type 0
 Asks asked x = (meaning_in asked ≡ meaning_of x) × IfCommand asked (λ words. 0 < length words)
 
 -- it reads the requests of values
-abbrev pub reading_commands : ItemReading CommandCodec Asked Settings
+abbrev pub reading_commands : ItemReading CommandCodec Requested Settings
 reading_commands = reading_with (λ c. c.decoder) (λ c. c.version) (λ c. c.limits) Asks
 
 -- its next item
-abbrev pub gives_commands : Gives CommandCodec Asked CodecError
+abbrev pub gives_commands : Gives CommandCodec Requested CodecError
 gives_commands = gives_by reading_commands
 
 -- the bytes that it writes for a reply

@@ -9,7 +9,7 @@ use Rattle.resp_value.specs.declared.cause.Cause.TheVariants as cause
 use Rattle.resp_scan.specs.declared.event.Fault.{Fault}
 use Rattle.resp_decode.specs.Decoding.{LacksMemory, RefusesByte}
 use Rattle.resp_decode.specs.Inputs.{EndsInside}
-use Rattle.resp_session.specs.declared.words.Asked.{Asked}
+use Rattle.resp_session.specs.declared.words.Requested.{Requested}
 use Rattle.tokio_util.specs.Codec.Next.{Next, decoded, partial, at_end}
 use Rattle.tokio_util.specs.Codec.Whole.{ReadsAll}
 use Rattle.resp_codec.specs.Commands as commands
@@ -40,7 +40,7 @@ AStreamIsItsValues = (c : RespCodec) (input : List ℕ) (items : List (Result Va
 
 -- a complete input is read as the requests of the values encoded in it
 abbrev pub AStreamIsItsCommands : Type 0
-AStreamIsItsCommands = (c : CommandCodec) (input : List ℕ) (items : List (Result Asked CodecError)) →
+AStreamIsItsCommands = (c : CommandCodec) (input : List ℕ) (items : List (Result Requested CodecError)) →
     commands.HasTaken c [] → ReadsAll gives_commands c input items → IsReadAs Asks (reads_by c) input items
 
 -- this value is returned, with exactly the bytes of its frame used, or an allocation fails

@@ -13,7 +13,7 @@ use crate::reading::next_value;
 use bytes::BytesMut;
 use resp_decode::Decoder;
 use resp_encode::encode;
-use resp_session::words::{Asked, asked_by};
+use resp_session::words::{Requested, asked_by};
 use resp_value::limits::Limits;
 use resp_value::value::Value;
 use resp_value::version::Version;
@@ -31,7 +31,7 @@ use tokio_util::codec;
 /// let mut codec = CommandCodec::new(alloc, &Limits::standard());
 /// let mut buffer = BytesMut::new(alloc);
 /// buffer.extend_from_slice(b"*1\r\n$4\r\nPING\r\n")?;
-/// if let Some(Asked::Command(words)) = codec.decode(&mut buffer)? {
+/// if let Some(Requested::Command(words)) = codec.decode(&mut buffer)? {
 ///     println!(rt; "{}", words.word(0).escape_ascii())?;
 /// }
 /// let mut out = BytesMut::new(alloc);
@@ -50,7 +50,7 @@ pub struct CommandCodec {
 }
 
 impl CommandCodec {
-    /// Makes a codec with these limits, before the first command. It writes version 2 at first.
+    /// Creates a codec with these limits, before the first command. It writes version 2 at first.
     /// Does not allocate.
     pub fn new(alloc: Global, limits: &Limits) -> CommandCodec
         ensures nothing_taken { HasTaken result [] }
@@ -75,7 +75,7 @@ impl CommandCodec {
 }
 
 impl codec::Decoder for CommandCodec {
-    type Item = Asked;
+    type Item = Requested;
 
     type Error = CodecError;
 
@@ -94,7 +94,7 @@ impl codec::Decoder for CommandCodec {
     ///
     /// Those of [`Decoder::feed`]. The buffer is cleared, and every later call returns the same
     /// error.
-    fn decode(&mut self, src: &mut BytesMut) -> Result<Option<Asked>, CodecError>
+    fn decode(&mut self, src: &mut BytesMut) -> Result<Option<Requested>, CodecError>
         ensures next { Decodes gives_commands self.old src.old.items result self.new src.new.items }
         ensures all_taken { IfOk result (λ next. IfNone next (src.new.items ≡ [])) }
         ensures cleared { OnErr result (src.new.items ≡ []) }
@@ -105,8 +105,8 @@ impl codec::Decoder for CommandCodec {
         }
     }
 
-    /// As `decode`, and fails with `Truncated` if the input ends inside a value.
-    fn decode_eof(&mut self, src: &mut BytesMut) -> Result<Option<Asked>, CodecError>
+    /// Like `decode`, and fails with `Truncated` if the input ends inside a value.
+    fn decode_eof(&mut self, src: &mut BytesMut) -> Result<Option<Requested>, CodecError>
         ensures next { DecodesAtEnd gives_commands self.old src.old.items result self.new
             src.new.items }
         ensures cleared { OnErr result (src.new.items ≡ []) }

@@ -2,7 +2,7 @@
 //! empty or calls other laws.
 
 ghost use Rattle.std.specs.Prelude.{[], List, Result};
-ghost use Rattle.resp_session.specs.declared.words.Asked.{Asked};
+ghost use Rattle.resp_session.specs.declared.words.Requested.{Requested};
 ghost use Rattle.resp_value.specs.declared.value.Value.{Value};
 ghost use Rattle.tokio_util.specs.Codec.Whole.{EndIsFinal};
 ghost use Rattle.tokio_util.specs.declared.codec.framed_read.FramedRead.{FramedRead};
@@ -44,7 +44,7 @@ pub fn a_framed_reader_gives_its_values<R: AsyncRead>()
 /// nothing after its end.
 pub fn a_framed_reader_gives_its_commands<R: AsyncRead>()
     ensures { EndIsFinal R.reads R.is_at_end → (framed : FramedRead R CommandCodec)
-        (items : List (Result Asked CodecError)) → HasNoByte framed →
+        (items : List (Result Requested CodecError)) → HasNoByte framed →
         commands.HasTaken framed.decoder [] →
         GivesItems R.reads R.is_at_end R.fails gives_commands framed items →
         AreItsValues R.reads R.is_at_end Asks (reads_by framed.decoder) framed.inner items }

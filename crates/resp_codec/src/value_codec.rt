@@ -46,7 +46,8 @@ impl RespCodec {
     ghost use Rattle.resp_scan.specs.declared.event.Fault.{Fault};
     ghost use Rattle.resp_codec.specs.Values.{HasFault, HasTaken, WhereTaken, rules_of};
 
-    /// Makes a codec of this version with these limits, before the first value. Does not allocate.
+    /// Creates a codec of this version with these limits, before the first value. Does not
+    /// allocate.
     pub fn new(alloc: Global, version: Version, limits: &Limits) -> RespCodec
         ensures nothing_taken { HasTaken result [] }
         ensures rules { rules_of result ≡ rules_under version limits.now }
@@ -111,7 +112,7 @@ impl codec::Decoder for RespCodec {
         Ok(value)
     }
 
-    /// As `decode`, and fails with `Truncated` if the input ends inside a value.
+    /// Like `decode`, and fails with `Truncated` if the input ends inside a value.
     fn decode_eof(&mut self, src: &mut BytesMut) -> Result<Option<Value>, CodecError>
         ensures next { DecodesAtEnd gives_values self.old src.old.items result self.new
             src.new.items }

@@ -7,3 +7,5 @@ pub mod Marks
 pub mod Sorted
 pub mod FurtherKeys
 pub mod Migrated
+pub mod Pieces
+pub mod Fitting

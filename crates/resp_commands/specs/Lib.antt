@@ -10,3 +10,5 @@ pub mod Keys
 pub mod KeyWords
 pub mod Checksums
 pub mod Slots
+pub mod Globs
+pub mod Fits

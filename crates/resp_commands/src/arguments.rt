@@ -3,7 +3,7 @@
 ghost use Rattle.std.specs.Prelude.{◌≡◌, ℕ, List, drop, length};
 ghost use Rattle.std.specs.Map.Iter.{TakesFirst, deref};
 
-use resp_scan::whole::Words;
+use resp_scan::whole::CommandArguments;
 
 /// The words of a command after its name, which are read in order.
 ///
@@ -17,7 +17,7 @@ pub trait Arguments<'a>: Drop {
     fn left(&self) -> usize
         ensures { result ≡ length (words self.now) };
 
-    /// Returns the words that are left, to read them twice.
+    /// Returns a copy of the words that are left, to read them twice.
     fn again(&self) -> Self
         ensures { words result ≡ words self.now };
 
@@ -26,7 +26,7 @@ pub trait Arguments<'a>: Drop {
         ensures steps { TakesFirst deref (words self.old) result (words self.new) };
 }
 
-impl<'a> Arguments<'a> for Words<'a> {
+impl<'a> Arguments<'a> for CommandArguments<'a> {
     ghost words = { λ words. words };
 
     #[inline]
@@ -45,7 +45,7 @@ impl<'a> Arguments<'a> for Words<'a> {
     }
 }
 
-/// Leaves out this many words, or all if there are fewer.
+/// Skips this many words, or all if there are fewer.
 #[tactic(auto, using(crate::proofs::Blocking::dropped_more))]
 pub(crate) fn skip<'a, A: Arguments<'a>>(words: &mut A, count: u8)
     ensures { A.words words.new ≡ drop count (A.words words.old) }

@@ -1,9 +1,9 @@
-//! The checksum of bytes from which the slot of a key comes.
+//! The checksum that determines the slot of a key.
 
 ghost use Rattle.std.specs.Prelude.{◌≡◌};
 ghost use Rattle.resp_commands.specs.Checksums.{crc16, with_byte};
 
-/// By a byte, the remainder of the byte, followed by 16 zero bits, divided by the polynomial.
+/// For each byte, the remainder of the byte, followed by 16 zero bits, divided by the polynomial.
 static REMAINDERS: [u16; 256] = [
     0x0000, 0x1021, 0x2042, 0x3063, 0x4084, 0x50a5, 0x60c6, 0x70e7, 0x8108, 0x9129, 0xa14a, 0xb16b,
     0xc18c, 0xd1ad, 0xe1ce, 0xf1ef, 0x1231, 0x0210, 0x3273, 0x2252, 0x52b5, 0x4294, 0x72f7, 0x62d6,

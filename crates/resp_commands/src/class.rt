@@ -8,9 +8,9 @@ use crate::command::{Class, Command};
 use crate::lookup::{place, subcommand};
 use crate::options::blocks;
 use crate::table::COMMANDS;
-use resp_scan::whole::Words;
+use resp_scan::whole::CommandArguments;
 
-/// What the table says of a command.
+/// What the table says about a command.
 #[derive(Clone, Copy, Debug, PartialEq, Eq)]
 pub struct Listing {
     /// The place of the command in the table, or `None` if the table has no command of this name.
@@ -19,13 +19,13 @@ pub struct Listing {
     pub class: Option<Class>,
 }
 
-/// Returns what the table says of a command, by its name and its other words. Upper and lower case are
-/// the same.
+/// Returns what the table says about the command with this name and these other words, in upper,
+/// lower or mixed case.
 ///
 /// A command with subcommands and without a word after its name has the class of its row. XREAD and
 /// XREADGROUP need a connection of their own only with BLOCK.
 #[inline(always)]
-pub fn listing_of(name: &[u8], arguments: Words<'_>) -> Listing
+pub fn listing_of(name: &[u8], arguments: CommandArguments<'_>) -> Listing
     ensures place { MatchOption result.place (IsUnknown name.now) (λ place. IsAt place name.now) }
     ensures class { MatchOption result.class (HasNoClass name.now arguments.entry)
         (HasClass name.now arguments.entry) }
@@ -43,19 +43,19 @@ pub fn listing_of(name: &[u8], arguments: Words<'_>) -> Listing
     }
 }
 
-/// Returns the class of a command by its name and its other words, as [`listing_of`] does, or `None` if
-/// the table has no such command, or no such subcommand of it.
+/// Returns the class of the command with this name and these other words, as [`listing_of`] does,
+/// or `None` if the table has no such command, or no such subcommand of it.
 #[inline(always)]
-pub fn class_of(name: &[u8], arguments: Words<'_>) -> Option<Class>
+pub fn class_of(name: &[u8], arguments: CommandArguments<'_>) -> Option<Class>
     ensures known { IfSome result (λ class. HasClass name.now arguments.entry class) }
     ensures unknown { IfNone result (HasNoClass name.now arguments.entry) }
 {
     listing_of(name, arguments).class
 }
 
-/// Returns the class of a command by its row and the words after its name.
+/// Returns the class of a command, given its row and the words after its name.
 #[inline(always)]
-fn class_by(command: &Command, arguments: Words<'_>) -> Option<Class>
+fn class_by(command: &Command, arguments: CommandArguments<'_>) -> Option<Class>
     ensures known { IfSome result (λ class. IsClassOf command.now arguments.entry class) }
     ensures unknown { IfNone result (LacksArgument command.now arguments.entry) }
 {
@@ -68,9 +68,9 @@ fn class_by(command: &Command, arguments: Words<'_>) -> Option<Class>
     class_by_word(command, arguments)
 }
 
-/// Returns the class of a command with subcommands by the word after its name.
+/// Returns the class of a command with subcommands, given the words after its name.
 #[inline(never)]
-fn class_by_word(command: &Command, mut arguments: Words<'_>) -> Option<Class>
+fn class_by_word(command: &Command, mut arguments: CommandArguments<'_>) -> Option<Class>
     requires waits_never { command.now.may_block ≡ false }
     requires has_subcommands { (command.now.container == 0) ≡ false }
     ensures known { IfSome result (λ class. HasClassByWord command.now arguments.entry class) }

@@ -5,12 +5,12 @@
 /// [`class_of`](crate::class_of) returns the class of a whole command.
 #[derive(Clone, Copy, Debug, PartialEq, Eq)]
 pub enum Class {
-    /// The server answers the command once and at once, and the connection keeps no trace of it. So
-    /// clients may share the connection.
+    /// The server replies to the command once and without waiting, and the command leaves no state
+    /// in the connection. So clients may share the connection.
     Shared,
     /// The command changes the version, the user or the database: HELLO, AUTH, SELECT and RESET.
     Setting,
-    /// The answer depends on the client's own connection, so the proxy answers itself: QUIT, and
+    /// The reply depends on the client's own connection, so the proxy itself replies: QUIT, and
     /// EXEC, DISCARD and UNWATCH without MULTI and WATCH.
     OwnAnswer,
     /// The client needs a connection of its own from this command on: the command waits, subscribes,
@@ -36,7 +36,7 @@ pub struct Keys {
     pub movable: bool,
     /// How the further keys are found.
     pub search: Search,
-    /// The place from which on they are searched.
+    /// The place from which the search starts.
     pub start: u8,
 }
 
@@ -64,11 +64,11 @@ pub enum Split {
     Never,
     /// Each node gets the keys of its slots, with the words that belong to them.
     ByKeys,
-    /// Each node that is no replica gets the command.
+    /// Each node that is not a replica gets the command.
     AllShards,
-    /// Each node gets the command, a replica too.
+    /// Each node gets the command, including replicas.
     AllNodes,
-    /// The command has a rule of its own, as SCAN.
+    /// The command has a rule of its own, as SCAN has.
     Special,
 }
 
@@ -80,7 +80,7 @@ pub enum Merge {
     InOrder,
     /// If a part fails, the reply is its error. Otherwise it is the reply to any part.
     AllSucceeded,
-    /// If all parts fail, the reply is an error. Otherwise it is the reply to a part that does not.
+    /// If all parts fail, the reply is an error. Otherwise it is the reply to a part that succeeds.
     OneSucceeded,
     /// The reply is the sum of the replies.
     Sum,

@@ -18,9 +18,9 @@ pub fn slot(key: &[u8]) -> u16
     crc16(hashed_part(key)) % 16_384
 }
 
-/// Returns the part of a key from which its slot comes. This is its hash tag, the bytes between the
-/// first `{` and the first `}` after it, if the key has both and a byte between them. Otherwise it is
-/// the whole key.
+/// Returns the part of a key that determines its slot. This is its hash tag, the bytes between the
+/// first `{` and the first `}` after it, if the key has both and a byte between them. Otherwise it
+/// is the whole key.
 pub fn hashed_part(key: &[u8]) -> &[u8]
     ensures { result.now ≡ hashed_part key.now }
 {
@@ -36,7 +36,8 @@ pub fn hashed_part(key: &[u8]) -> &[u8]
     &rest[..count]
 }
 
-/// Returns the number of bytes before the first such byte, or of all bytes if there is no such byte.
+/// Returns the number of bytes before the first occurrence of this byte, or of all bytes if it does
+/// not occur.
 fn bytes_before(wanted: u8, bytes: &[u8]) -> usize
     ensures count { result ≡ bytes_before wanted bytes.now }
     ensures within { result ≤ length bytes.now }

@@ -8,7 +8,7 @@ ghost use Rattle.resp_commands.specs.KeyWords.{AreKeyWords};
 
 use crate::command::Keys;
 use crate::keys::KeyPlaces;
-use resp_scan::whole::Words;
+use resp_scan::whole::CommandArguments;
 use std::marker::Model;
 
 /// The words of a command that are keys, in order. They are borrowed, and taking them does not
@@ -17,7 +17,7 @@ use std::marker::Model;
 pub struct KeyWords<'a> {
     places: KeyPlaces,
     place: usize,
-    words: Words<'a>,
+    words: CommandArguments<'a>,
 }
 
 impl<'a> Model for KeyWords<'a> {
@@ -50,7 +50,7 @@ impl<'a> Iterator for KeyWords<'a> {
 }
 
 /// Returns the words at these places, among the words after the name of a command.
-pub fn key_words(places: KeyPlaces, arguments: Words<'_>) -> KeyWords<'_>
+pub fn key_words(places: KeyPlaces, arguments: CommandArguments<'_>) -> KeyWords<'_>
     ensures { (keys : Keys) → AreKeys keys arguments.entry places →
         AreKeyWords keys arguments.entry result }
 {

@@ -73,9 +73,10 @@ impl KeyPlaces {
     }
 }
 
-/// Returns the places of the keys of a command, by the row of the table and the words after the name.
+/// Returns the places of the keys of a command, given its row of the table and the words after its
+/// name.
 ///
-/// Returns `None` if the number of keys is no decimal number or greater than the number of words
+/// Returns `None` if the number of keys is not a decimal number or greater than the number of words
 /// after it.
 pub fn key_places<'a, A: Arguments<'a>>(keys: &Keys, arguments: A) -> Option<KeyPlaces>
     ensures keys { IfSome result (AreKeys keys.now (A.words arguments)) }
@@ -312,7 +313,7 @@ fn migrate_places<'a, A: Arguments<'a>>(arguments: A, skipped: u8, count: usize)
     }
 }
 
-/// Returns the place after a word with so many words before it, after so many others.
+/// Returns the place after a word that has `number` words before it, after `skipped` others.
 fn place_after(number: usize, skipped: u8, count: usize) -> Places
     requires { number ≤ count - skipped }
     ensures { (place : ℕ) →

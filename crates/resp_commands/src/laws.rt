@@ -19,9 +19,9 @@ pub fn names_are_in_lower_case()
     ensures { NamesAreInLowerCase }
 {}
 
-/// The parts of DEL, UNLINK, EXISTS and TOUCH are summed up, those of MGET are put together in the
-/// order of the keys, and those of MSET all succeed. DBSIZE, KEYS and FLUSHALL go to each shard, and
-/// GET is not split.
+/// The parts of DEL, UNLINK, EXISTS and TOUCH are summed, those of MGET are put together in the
+/// order of the keys, and those of MSET all succeed. DBSIZE, KEYS and FLUSHALL go to each shard,
+/// and GET is not split.
 pub fn published_merges()
     ensures { PublishedMerges }
 {}

@@ -1,14 +1,16 @@
 //! The table of the commands of Redis, and the slots of keys in a Redis Cluster.
 //!
-//! [`entry`] finds a command by its name in any case. Its [`Command`] says whether clients that send
-//! it can share a connection to the server, and where its keys are. The table is that of
-//! redis-server 7.0.15. [`slot`] returns the slot of a key. No function allocates.
+//! [`entry`] finds a command by its name, in upper, lower or mixed case. Its [`Command`] says
+//! whether clients that send it can share a connection to the server, and where its keys are. The
+//! table is that of redis-server 7.0.15. [`slot`] returns the slot of a key, and [`glob::matches`] whether a key matches a
+//! pattern of KEYS. No function allocates.
 #![tactic(auto)]
 
 mod arguments;
 mod checksum;
 mod class;
 mod command;
+pub mod glob;
 mod key;
 mod key_list;
 mod keys;

@@ -60,8 +60,9 @@ pub fn subcommand(command: &Command, name: &[u8]) -> Option<&'static Command>
     Some(subcommand)
 }
 
-/// Returns the row of a command, by its name and the word after it: the row of its subcommand if it
-/// has subcommands. Returns `None` if the table has no such command, or no such subcommand of it.
+/// Returns the row of a command, given its name and the word after it: the row of its subcommand if
+/// it has subcommands. Returns `None` if the table has no such command, or no such subcommand of
+/// it.
 pub fn row_of(name: &[u8], first: Option<&[u8]>) -> Option<&'static Command>
     ensures known { IfSome result (λ row. HasRow name.now first.entry row.now) }
     ensures unknown { IfNone result (HasNoRow name.now first.entry) }

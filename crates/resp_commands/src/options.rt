@@ -6,10 +6,10 @@ ghost use Rattle.std.specs.Str.{str_eq_ignore_ascii_case};
 ghost use Rattle.resp_commands.specs.Options.{Blocks, argument_count};
 
 use crate::arguments::skip;
-use resp_scan::whole::Words;
+use resp_scan::whole::CommandArguments;
 
 /// Returns whether the words after the name of XREAD or XREADGROUP have the option BLOCK.
-pub(crate) fn blocks(mut words: Words<'_>) -> bool
+pub(crate) fn blocks(mut words: CommandArguments<'_>) -> bool
     ensures { MatchBool result (Blocks words.entry) (Blocks words.entry → ⊥) }
 {
     while let Some(word) = words.next() {

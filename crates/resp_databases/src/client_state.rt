@@ -13,8 +13,8 @@ use resp_value::version::Version;
 use std::alloc::Global;
 
 impl Client {
-    /// Makes a client of version 2 in database 0, without a name, that has sent nothing. Does not
-    /// allocate.
+    /// Returns a client in version 2 and database 0, without a name, that has sent nothing. Does
+    /// not allocate.
     pub(crate) fn new(alloc: Global, id: u64) -> Client
         ensures standing { standing_of result ≡ record {
           id = id;
@@ -38,7 +38,7 @@ impl Client {
         }
     }
 
-    /// Returns the id of the client, which CLIENT ID and HELLO reply.
+    /// Returns the id of the client, which CLIENT ID and HELLO return.
     pub fn id(&self) -> u64
         ensures { result ≡ (standing_of self.now).id }
     {
@@ -64,7 +64,7 @@ impl Client {
         self.out.advance(count);
     }
 
-    /// Returns whether no command of the client is run any more: after QUIT, after a protocol error
+    /// Returns whether no more commands of the client are run: after QUIT, after a protocol error
     /// and when out of memory.
     pub fn is_closing(&self) -> bool
         ensures { result ≡ (standing_of self.now).closing }
@@ -72,7 +72,7 @@ impl Client {
         self.closing
     }
 
-    /// Runs no command of the client any more. Drops the bytes of a command that it has begun.
+    /// Stops running commands of the client, and drops the bytes of an incomplete command.
     pub(crate) fn shut(&mut self)
         ensures closing { standing_of self.new ≡ record (standing_of self.old) { closing = true } }
         ensures same_waiting { waiting_of self.new ≡ waiting_of self.old }

@@ -8,7 +8,7 @@ ghost use Rattle.resp_databases.specs.States.{IsWithin};
 
 use crate::reply::reply_again;
 use bytes::BytesMut;
-use resp_scan::whole::Words;
+use resp_scan::whole::CommandArguments;
 use resp_server::Hub;
 use resp_session::laws as sessions;
 use resp_value::laws as grammar;
@@ -17,11 +17,11 @@ use resp_value::version::Version;
 use std::alloc::AllocError;
 use std::hash::BuildHasher;
 
-/// The most bytes of a reply to a command that changes the store.
+/// The maximum number of bytes of a reply to a command that changes the store.
 const ROOM: usize = 64;
 
-/// Runs a command, whose bytes these are, in a session that is open only meanwhile, and appends its
-/// reply in a version. The command is not a HELLO that would change the version.
+/// Runs the command with these bytes in a session that is open only for this command, and appends
+/// its reply in this version. The command is not a HELLO that would change the version.
 ///
 /// # Errors
 ///
@@ -95,7 +95,7 @@ fn run_in<S: BuildHasher>(
 
 /// Returns how many of these keys exist, or `None` if there are 2^64 or more. A key that is named twice is
 /// counted twice.
-pub(crate) fn count<S: BuildHasher>(hub: &Hub<S>, keys: Words<'_>) -> Option<u64>
+pub(crate) fn count<S: BuildHasher>(hub: &Hub<S>, keys: CommandArguments<'_>) -> Option<u64>
     ensures some { IfSome result (λ count. count ≡ length (keys_in hub.now.store keys.entry)) }
     ensures none { IfNone result (2 ^ 64 ≤ length (keys_in hub.now.store keys.entry)) }
 {

@@ -46,7 +46,7 @@ impl<S: BuildHasher + Copy> Databases<S> {
     ghost use Rattle.resp_databases.specs.Running.{standing_of, waiting_of};
     ghost use Rattle.resp_databases.specs.Taking.{HasUnfinished};
 
-    /// Makes 16 databases without a key. Commands are read and replies are written within these
+    /// Returns 16 databases without keys. Commands are read and replies are written within these
     /// limits.
     ///
     /// # Errors
@@ -73,7 +73,7 @@ impl<S: BuildHasher + Copy> Databases<S> {
         })
     }
 
-    /// Makes a client of version 2 in database 0, without a name. The ids are 1, 2, 3 and so on,
+    /// Returns a client in version 2 and database 0, without a name. The ids are 1, 2, 3 and so on,
     /// and no id is given twice. Returns `None` after 9,223,372,036,854,775,807 clients. Does not
     /// allocate.
     pub fn open(&mut self) -> Option<Client>

@@ -12,7 +12,7 @@ ghost use Rattle.resp_databases.specs.declared.refusal.Verb.TheVariants as verb;
 
 use crate::index::index_of;
 use crate::refusal::{Refusal, Verb};
-use resp_scan::whole::Words;
+use resp_scan::whole::CommandArguments;
 use resp_session::names::is_name;
 use resp_value::version::Version;
 
@@ -26,7 +26,7 @@ pub(crate) enum Deed<'a> {
     /// Select the database of this number.
     Select(usize),
     /// Count those of these keys that exist.
-    Exists(Words<'a>),
+    Exists(CommandArguments<'a>),
     /// Count the keys of the client's database.
     DbSize,
     /// Remove the keys of the client's database.
@@ -50,7 +50,7 @@ pub(crate) enum Deed<'a> {
 }
 
 /// Returns what the command of this name with these words after it asks for.
-pub(crate) fn deed_of<'a>(name: &'a [u8], arguments: Words<'a>) -> Deed<'a>
+pub(crate) fn deed_of<'a>(name: &'a [u8], arguments: CommandArguments<'a>) -> Deed<'a>
     ensures asks { Asks name.now arguments.entry
         (asked_by (operation_of name.now arguments.entry) result) }
     ensures keeps { result ≡ Pass → KeepsVersion (operation_of name.now arguments.entry) }
@@ -76,9 +76,9 @@ pub(crate) fn deed_of<'a>(name: &'a [u8], arguments: Words<'a>) -> Deed<'a>
     }
 }
 
-/// Returns what a HELLO with these words after its name asks for. A HELLO with an error reply is
-/// run in the client's database, whose error it is.
-fn hello(mut words: Words<'_>) -> Deed<'_>
+/// Returns what a HELLO with these words after its name asks for. A HELLO that gets an error is run
+/// in the client's database, which replies with this error.
+fn hello(mut words: CommandArguments<'_>) -> Deed<'_>
     ensures asks { asked_by (hello_operation words.entry) result ≡
         asked.Request (hello_operation words.entry) }
     ensures keeps { result ≡ Pass → KeepsVersion (hello_operation words.entry) }
@@ -108,7 +108,7 @@ fn version(word: &[u8]) -> Deed<'_>
 }
 
 /// Returns what a SELECT with these words after its name asks for.
-fn select(words: Words<'_>) -> Deed<'_>
+fn select(words: CommandArguments<'_>) -> Deed<'_>
     ensures { (request : Operation) → SelectAsks words.entry (asked_by request result) }
 {
     let Some(word) = only(words) else {
@@ -121,7 +121,7 @@ fn select(words: Words<'_>) -> Deed<'_>
 }
 
 /// Returns the only word, or `None` if there is none or more than one.
-fn only(mut words: Words<'_>) -> Option<&[u8]>
+fn only(mut words: CommandArguments<'_>) -> Option<&[u8]>
     ensures some { IfSome result (λ word. words.entry ≡ word.now ∷ []) }
     ensures none { IfNone result ((word : List ℕ) → words.entry ≡ word ∷ [] → ⊥) }
 {
@@ -129,7 +129,7 @@ fn only(mut words: Words<'_>) -> Option<&[u8]>
 }
 
 /// Returns what an EXISTS with these words after its name asks for.
-fn exists(words: Words<'_>) -> Deed<'_>
+fn exists(words: CommandArguments<'_>) -> Deed<'_>
     ensures { (request : Operation) → asked_by request result ≡ exists_asks words.entry }
 {
     if words.len() == 0 {
@@ -139,15 +139,15 @@ fn exists(words: Words<'_>) -> Deed<'_>
 }
 
 /// Returns what a DBSIZE with these words after its name asks for.
-fn size(words: Words<'_>) -> Deed<'_>
+fn size(words: CommandArguments<'_>) -> Deed<'_>
     ensures { (request : Operation) →
         asked_by request result ≡ alone_asks asked.DbSize verb.DbSize words.entry }
 {
     alone(Deed::DbSize, Verb::DbSize, words)
 }
 
-/// Returns `deed` if these words are no word, ASYNC or SYNC, and otherwise an error.
-fn flush<'a>(deed: Deed<'a>, mut words: Words<'a>) -> Deed<'a>
+/// Returns `deed` if there are no words, or only ASYNC or SYNC, and otherwise an error.
+fn flush<'a>(deed: Deed<'a>, mut words: CommandArguments<'a>) -> Deed<'a>
     ensures { (request : Operation) →
         asked_by request result ≡ flush_asks (asked_by request deed.entry) words.entry }
 {
@@ -165,7 +165,7 @@ fn flush<'a>(deed: Deed<'a>, mut words: Words<'a>) -> Deed<'a>
 }
 
 /// Returns what a CLIENT with these words after its name asks for.
-fn client(mut words: Words<'_>) -> Deed<'_>
+fn client(mut words: CommandArguments<'_>) -> Deed<'_>
     ensures { (request : Operation) → asked_by request result ≡ client_asks words.entry }
 {
     let Some(subcommand) = words.next() else {
@@ -185,7 +185,7 @@ fn client(mut words: Words<'_>) -> Deed<'_>
 }
 
 /// Returns `deed` if there is no word, and otherwise the error of the wrong number of words.
-fn alone<'a>(deed: Deed<'a>, verb: Verb, words: Words<'a>) -> Deed<'a>
+fn alone<'a>(deed: Deed<'a>, verb: Verb, words: CommandArguments<'a>) -> Deed<'a>
     ensures { (request : Operation) →
         asked_by request result ≡ alone_asks (asked_by request deed.entry) verb words.entry }
 {
@@ -197,7 +197,7 @@ fn alone<'a>(deed: Deed<'a>, verb: Verb, words: Words<'a>) -> Deed<'a>
 }
 
 /// Returns what a CLIENT SETNAME with these words after it asks for.
-fn set_name(words: Words<'_>) -> Deed<'_>
+fn set_name(words: CommandArguments<'_>) -> Deed<'_>
     ensures { (request : Operation) → asked_by request result ≡ set_name_asks words.entry }
 {
     let Some(name) = only(words) else {
@@ -210,7 +210,7 @@ fn set_name(words: Words<'_>) -> Deed<'_>
     }
 }
 
-/// Returns whether each byte of a name is printable and no space.
+/// Returns whether each byte of a name is printable and not a space.
 fn is_client_name(name: &[u8]) -> bool
     ensures { result ≡ is_client_name name.now }
 {
@@ -223,7 +223,7 @@ fn is_client_name(name: &[u8]) -> bool
 }
 
 /// Returns what a CLIENT SETINFO with these words after it asks for.
-fn set_info(words: Words<'_>) -> Deed<'_>
+fn set_info(words: CommandArguments<'_>) -> Deed<'_>
     ensures { (request : Operation) → asked_by request result ≡ set_info_asks words.entry }
 {
     if words.len() == 2 {

@@ -1,4 +1,4 @@
-//! The number of a database, as SELECT has it.
+//! The number of a database, as in SELECT.
 
 ghost use Rattle.std.specs.Prelude.{◌≡◌, ℤ, FitsSigned, IfNone, IfSome};
 ghost use Rattle.std.specs.Fmt.{signed_decimal};
@@ -32,8 +32,8 @@ pub(crate) fn index_of(word: &[u8]) -> Result<usize, Refusal>
     Ok(integer as usize)
 }
 
-/// Returns the integer of which a word is the decimal text, without a plus sign and without a
-/// leading zero.
+/// Returns the integer whose decimal text a word is, without a plus sign and without a leading
+/// zero.
 fn integer_of(word: &[u8]) -> Option<i64>
     ensures some { IfSome result (λ z. word.now ≡ signed_decimal z) }
     ensures none { IfNone result ((z : ℤ) → FitsSigned w64 z → word.now ≡ signed_decimal z → ⊥) }

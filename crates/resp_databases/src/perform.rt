@@ -21,7 +21,7 @@ use crate::rejection::{Rejection, TakeError};
 use crate::reply::{reply_name, reply_ok, reply_unknown};
 use bytes::BytesMut;
 use resp_scan::whole;
-use resp_scan::whole::Words;
+use resp_scan::whole::CommandArguments;
 use resp_server::reply;
 use resp_value::laws::no_spelling_begins_another;
 use resp_value::version::Version;
@@ -29,12 +29,12 @@ use std::alloc::AllocError;
 use std::hash::BuildHasher;
 
 impl<S: BuildHasher + Copy> Databases<S> {
-    /// Runs a command of a client, whose bytes these are, and queues the reply.
+    /// Runs the command of a client with these bytes, and queues the reply.
     ///
     /// # Errors
     ///
-    /// `Rejected` if the bytes are no command within the limits, and `OutOfMemory` if an allocation
-    /// fails, or after 2^63 - 1 commands of a database. Then nothing is changed.
+    /// `Rejected` if the bytes are not a command within the limits, and `OutOfMemory` if an
+    /// allocation fails, or after 2^63 - 1 commands of a database. Then nothing is changed.
     pub(crate) fn run(&mut self, client: &mut Client, command: &[u8]) -> Result<(), TakeError>
         ensures done { OnOk result
             (HasRun command.now self.old self.new client.old client.new) }
@@ -106,8 +106,8 @@ impl<S: BuildHasher + Copy> Databases<S> {
         database::run(hub, &self.limits, client.version, command, &mut client.out)
     }
 
-    /// Queues the number of those of these keys that the client's database has.
-    fn count(&self, client: &mut Client, keys: Words<'_>) -> Result<(), AllocError>
+    /// Queues the number of these keys that exist in the client's database.
+    fn count(&self, client: &mut Client, keys: CommandArguments<'_>) -> Result<(), AllocError>
         ensures done { OnOk result
             (HasDone (Exists keys.entry) self.now self.now client.old client.new) }
         ensures failed { OnErr result (IsUnchanged client.old client.new) }

@@ -7,7 +7,7 @@ ghost use Rattle.resp_session.specs.Replies.{error};
 ghost use Rattle.resp_databases.specs.Deeds.{refusal_text};
 ghost use Rattle.resp_databases.specs.declared.refusal.Refusal.TheVariants.{WrongNumber};
 
-/// Why a command has an error reply.
+/// Why a command gets an error.
 #[derive(Clone, Copy, Debug, PartialEq, Eq)]
 pub(crate) enum Refusal {
     /// It has too few or too many words.

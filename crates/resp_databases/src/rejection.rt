@@ -39,7 +39,7 @@ pub(crate) enum TakeError {
     OutOfMemory,
 }
 
-/// Runs no command of the client any more, and queues the error reply to bytes that are rejected.
+/// Stops running commands of the client, and queues the error reply to rejected bytes.
 ///
 /// # Errors
 ///

@@ -38,7 +38,7 @@ pub(crate) fn reply_name(
     append::bulk(name, out)
 }
 
-/// Appends a reply of version 2 that is neither an aggregate nor in an aggregate, in a version.
+/// Appends a reply of version 2, which is neither an aggregate nor a part of one, in this version.
 pub(crate) fn reply_again(
     out: &mut BytesMut,
     version: Version,

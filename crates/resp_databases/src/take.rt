@@ -23,10 +23,10 @@ impl<S: BuildHasher + Copy> Databases<S> {
     /// Gives the server a piece of the bytes that a client has sent. Runs the commands that are
     /// complete with this piece, in order, while at most `held` bytes wait to be written to the
     /// client, and queues their replies. The pieces may be cut anywhere. Returns the number of
-    /// bytes that were used. Give the others again once bytes were written.
+    /// bytes that were used. Give the others again after bytes were written.
     ///
     /// If a byte is rejected, a value is not a command, or the quotes of a line are not closed, an
-    /// error reply is queued that names the problem, and the client is closing: its further bytes
+    /// error reply that names the problem is queued, and the client is closing: its further bytes
     /// are ignored. QUIT closes it too. Nulls, empty arrays and empty lines are ignored.
     ///
     /// # Errors
@@ -182,7 +182,7 @@ impl<S: BuildHasher + Copy> Databases<S> {
     }
 }
 
-/// Returns why bytes are not taken that are no array of words.
+/// Returns why bytes that are not an array of words are not taken.
 fn rejection_of(error: FrameError) -> TakeError
     ensures { result ≡ taking_error error }
 {
@@ -193,7 +193,7 @@ fn rejection_of(error: FrameError) -> TakeError
     }
 }
 
-/// Returns why a line is not taken that is no command.
+/// Returns why a line that is not a command is not taken.
 fn rejection_of_line(error: InlineError) -> TakeError
     ensures { result ≡ inline_error error }
 {

@@ -7,8 +7,8 @@ use Rattle.resp_value.specs.Data.{Datum}
 use Rattle.resp_value.specs.Rules.{Rules, WithinTotal}
 use Rattle.resp_value.specs.Spellings.{IsSpelling, IsViable}
 use Rattle.resp_value.specs.Values.{datum_of}
-use Rattle.resp_cut.specs.Cuts.{IsCutOf, cut, cut_lengths}
-use Rattle.resp_cut.specs.declared.cut_value.CutValue.{CutValue}
+use Rattle.resp_value.specs.Cuts.{IsCutOf, cut, cut_lengths}
+use Rattle.resp_value.specs.declared.cut_value.CutValue.{CutValue}
 use Rattle.resp_scan.specs.Kinds.{rules_of}
 use Rattle.resp_scan.specs.Reading.{BeginDue, IsFaulted}
 use Rattle.resp_scan.specs.Listening.{HearsValue}

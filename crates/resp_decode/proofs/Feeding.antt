@@ -29,7 +29,7 @@ use Rattle.resp_decode.specs.Hearing.{HasHeard}
 use Rattle.resp_decode.specs.Holding.{construction_of}
 use Rattle.resp_decode.specs.Standing.{TakesFront, TakesOrStands}
 use Rattle.resp_decode.specs.Weights.{weight_of}
-use Rattle.resp_decode.specs.declared.held.Held.{Held}
+use Rattle.resp_decode.specs.declared.held.HeldParts.{HeldParts}
 use Rattle.resp_decode.proofs.Counted.{events_weigh}
 use Rattle.resp_decode.proofs.Values.{are_brief, are_good, brief_first, value_is_built}
 
@@ -155,11 +155,11 @@ within {Has = Has} {Nothing = Nothing} {s = s} m n reading never of =
 -- The decoder of whole values.
 
 -- the weight kept is that of what is held, and at most the bytes taken
-pub record IsLight (held : Held) (front : List ℕ) : Type 0 where
+pub record IsLight (held : HeldParts) (front : List ℕ) : Type 0 where
   pub same : held.weight ≡ weight_of (construction_of held)
   pub light : held.weight ≤ length front
 
-pub is_light : (s : Place) (held : Held) (front : List ℕ) → TakesFront (HasHeard held) s front →
+pub is_light : (s : Place) (held : HeldParts) (front : List ℕ) → TakesFront (HasHeard held) s front →
     IsViable (rules_of s) WithinTotal front → IsLight held front
 is_light s held front w viable =
     let begin : BeginDue front w.given = λ rest whole spells. ([], w.all_due rest whole spells ∙ sym (append-nil w.given)) in
@@ -171,14 +171,14 @@ is_light s held front w viable =
     }
 
 -- where a value ends it is held whole
-value_whole : (r : Rules) (s : Place) (held : Held) (written : List ℕ) (h : HearsValue r s (HasHeard held) written) →
+value_whole : (r : Rules) (s : Place) (held : HeldParts) (written : List ℕ) (h : HearsValue r s (HasHeard held) written) →
     (tree : Tree) × IsSpelling r (value tree) written × (construction_of held ≡ record nothing { whole = Some (value tree) })
 value_whole r s held written h =
     let b = value_is_built r written h.heard h.is_value in
     (b.tree, b.spelling, h.has_heard.holds ∙ b.is)
 
 -- the text is a spelling of the value that is taken out
-pub spells_value : (r : Rules) (s : Place) (held : Held) (written : List ℕ) (x : Value) →
+pub spells_value : (r : Rules) (s : Place) (held : HeldParts) (written : List ℕ) (x : Value) →
     HearsValue r s (HasHeard held) written → Some (datum_of x) ≡ (construction_of held).whole →
     IsSpelling r (datum_of x) written
 spells_value r s held written x h taken =
@@ -188,7 +188,7 @@ spells_value r s held written x h taken =
     subst (λ y. IsSpelling r y written) same_value spelling
 
 -- when it is taken out, nothing is taken of the next
-pub takes_next : (r : Rules) (s : Place) (held left : Held) (written : List ℕ) →
+pub takes_next : (r : Rules) (s : Place) (held left : HeldParts) (written : List ℕ) →
     HearsValue r s (HasHeard held) written → construction_of left ≡ record (construction_of held) { whole = None } →
     left.weight ≡ 0 → TakesFront (HasHeard left) s []
 takes_next r s held left written h holds weighs =
@@ -197,7 +197,7 @@ takes_next r s held left written h holds weighs =
     (record { holds = holds ∙ ap (λ b. let c : Construction = record b { whole = None } in c) is; weighs = weighs })
 
 -- so one is taken out
-pub holds_some_value : (r : Rules) (s : Place) (held : Held) (written : List ℕ) → HearsValue r s (HasHeard held) written →
+pub holds_some_value : (r : Rules) (s : Place) (held : HeldParts) (written : List ℕ) → HearsValue r s (HasHeard held) written →
     (construction_of held).whole ≡ None → ⊥
 holds_some_value r s held written h none =
     let (tree, spelling, is) = value_whole r s held written h in

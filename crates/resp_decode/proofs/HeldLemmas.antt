@@ -14,8 +14,8 @@ use Rattle.resp_decode.specs.Builds.{Construction, Text, with_value_in, with_byt
 use Rattle.resp_decode.specs.Fits.{IsMemberCount, events_weight}
 use Rattle.resp_decode.specs.Holding.{construction_of, group_of, key_data, maybe_datum, maybe_text, text_held}
 use Rattle.resp_decode.specs.declared.group.Group.{Group}
-use Rattle.resp_decode.specs.declared.held.Held.{Held}
-use Rattle.resp_decode.specs.declared.text.Text.{Text as HeldText}
+use Rattle.resp_decode.specs.declared.held.HeldParts.{HeldParts}
+use Rattle.resp_decode.specs.declared.text.PartialText.{PartialText as HeldText}
 
 -- pairs side by side
 pub in_turn-append : (xs ys : List (Datum × Datum)) → in_turn (xs ++ ys) ≡ in_turn xs ++ in_turn ys
@@ -77,11 +77,11 @@ group_put xs n g y x b size h is added =
     ∙ ap (λ z. with_value_in z x b) (sym (ap (λ z. reverse (map group_of z)) whole ∙ innermost init g))
 
 -- the text that is being read has a part more
-pub extended_text : (old between : Held) (weight : ℕ) (t extended : HeldText) (part : List ℕ) → between ≡ record old { weight = weight } →
+pub extended_text : (old between : HeldParts) (weight : ℕ) (t extended : HeldText) (part : List ℕ) → between ≡ record old { weight = weight } →
     between.text ≡ Some t → text_held extended ≡ record (text_held t) { content = (text_held t).content ++ part } →
     construction_of (record between { text = Some extended }) ≡ record (construction_of old) { text = with_bytes (construction_of old).text part }
 extended_text old between weight t extended part same has added =
-    let F : Held → Option Text → Construction = λ h y. record { groups = reverse (map group_of h.groups.items); text = y; whole = maybe_datum h.whole } in
-    let had : old.text ≡ Some t = sym (ap (λ h. let z : Held = h in z.text) same) ∙ has in
+    let F : HeldParts → Option Text → Construction = λ h y. record { groups = reverse (map group_of h.groups.items); text = y; whole = maybe_datum h.whole } in
+    let had : old.text ≡ Some t = sym (ap (λ h. let z : HeldParts = h in z.text) same) ∙ has in
     ap (λ h. F h (Some (text_held extended))) same
     ∙ ap (F old) (ap Some added ∙ sym (ap (λ o. with_bytes (maybe_text o) part) had))

@@ -7,8 +7,8 @@ use Rattle.resp_value.specs.Data.{Kind, Scalar, Datum, Data, scalar, aggregate, 
 use Rattle.resp_value.specs.Data as d
 use Rattle.resp_fronts.specs.Events.{Event, TextKind}
 use Rattle.resp_fronts.specs.Events as e
-use Rattle.resp_cut.specs.Cuts.{cut, cut_each, cut_lengths, cut_scalar, kept_part, lengths_of_each, longer}
-use Rattle.resp_cut.proofs.Cutting.{longer-none}
+use Rattle.resp_value.specs.Cuts.{cut, cut_each, cut_lengths, cut_scalar, kept_part, lengths_of_each, longer}
+use Rattle.resp_value.proofs.Cutting.{longer-none}
 use Rattle.resp_scan.specs.Kinds.{content_events, text_kind_of}
 use Rattle.resp_scan.specs.Listening.{IsTextOf}
 use Rattle.resp_scan.specs.declared.event.TextKind.{TextKind as ReadKind}

@@ -5,7 +5,7 @@ use Rattle.resp_value.specs.Rules.{WithinTotal}
 use Rattle.resp_value.specs.Trees.{text}
 use Rattle.resp_fronts.specs.Events.{Event, TextKind}
 use Rattle.resp_fronts.specs.Events as e
-use Rattle.resp_cut.specs.Cuts.{kept_part, longer}
+use Rattle.resp_value.specs.Cuts.{kept_part, longer}
 use Rattle.resp_scan.specs.Kinds.{content_events, text_kind_of}
 use Rattle.resp_scan.specs.Listening.{Hears, IsTextOf, MayBeGiven, whole_text_events}
 use Rattle.resp_scan.specs.Reading.{Events}
@@ -18,7 +18,7 @@ use Rattle.resp_decode.specs.Hearing.{TakesInWhereFit}
 use Rattle.resp_decode.specs.Holding.{construction_of}
 use Rattle.resp_decode.specs.Keeping.{CountsText, HasKept, KeepsOf}
 use Rattle.resp_decode.specs.Weights.{weight_of, weight_of_text}
-use Rattle.resp_decode.specs.declared.held.Held.{Held}
+use Rattle.resp_decode.specs.declared.held.HeldParts.{HeldParts}
 use Rattle.resp_decode.specs.declared.kept.Kept.{Kept}
 use Rattle.resp_decode.proofs.Counted.{events_weigh}
 use Rattle.resp_decode.proofs.Folds.{with_events-append}
@@ -34,11 +34,11 @@ pub record PassesFor (shown : ℕ) (passed more : Events) (b : Construction) : T
   pub builds : with_events passed (cut_construction shown b) ≡ cut_construction shown (with_events more b)
 
 -- what is held then is what is kept, and so is its weight
-pub record HoldsKept (shown : ℕ) (held : Held) (b : Construction) : Type 0 where
+pub record HoldsKept (shown : ℕ) (held : HeldParts) (b : Construction) : Type 0 where
   pub holds : construction_of held ≡ cut_construction shown b
   pub weighs : held.weight ≡ weight_of (cut_construction shown b)
 
-pub holds_kept : (shown : ℕ) (old new : Held) (passed more : Events) (b : Construction) (goes_on : Bool) → HoldsKept shown old b →
+pub holds_kept : (shown : ℕ) (old new : HeldParts) (passed more : Events) (b : Construction) (goes_on : Bool) → HoldsKept shown old b →
     TakesInWhereFit old new passed goes_on → PassesFor shown passed more b → weight_of (with_events more b) < 2 ^ 64 → goes_on ≡ true →
     HoldsKept shown new (with_events more b)
 holds_kept shown old new passed more b goes_on h takes p small goes =
@@ -104,7 +104,7 @@ no_groups shown gs none = ap (map (cut_group shown)) none
 
 -- Events outside texts.
 
-pub keeps_event : (old : Kept) (held : Held) (event : Event) (goes_on : Bool) → IsNoText event → TakesInWhereFit old.held held (event ∷ []) goes_on →
+pub keeps_event : (old : Kept) (held : HeldParts) (event : Event) (goes_on : Bool) → IsNoText event → TakesInWhereFit old.held held (event ∷ []) goes_on →
     ((b : Construction) → MayCome event b → b.text ≡ None) → KeepsMore old (record old { held = held }) (event ∷ []) goes_on
 keeps_event old held event goes_on h takes outside b k may small goes =
     let shown = old.shown in
@@ -119,7 +119,7 @@ keeps_event old held event goes_on h takes outside b k may small goes =
     }
 
 -- a call over a scalar without content hears it, and stops in an aggregate alone
-pub kept_hears_scalar : (old : Kept) (held : Held) (event : Event) (goes_on : Bool) → IsNoText event → TakesInWhereFit old.held held (event ∷ []) goes_on →
+pub kept_hears_scalar : (old : Kept) (held : HeldParts) (event : Event) (goes_on : Bool) → IsNoText event → TakesInWhereFit old.held held (event ∷ []) goes_on →
     ((b : Construction) → MayCome event b → b.text ≡ None) → (goes_on ≡ false → (construction_of old.held).groups ≡ [] → ⊥) →
     KeptHears old (record old { held = held }) (event ∷ []) goes_on
 kept_hears_scalar old held event goes_on h takes outside within =
@@ -131,7 +131,7 @@ kept_hears_scalar old held event goes_on h takes outside within =
     within stop same)
 
 -- a call over the head or the end of an aggregate hears it
-pub kept_hears_event : (old : Kept) (held : Held) (event : Event) (goes_on : Bool) → IsNoText event → TakesInWhereFit old.held held (event ∷ []) goes_on →
+pub kept_hears_event : (old : Kept) (held : HeldParts) (event : Event) (goes_on : Bool) → IsNoText event → TakesInWhereFit old.held held (event ∷ []) goes_on →
     ((b : Construction) → MayCome event b → b.text ≡ None) → WantMemory (event ∷ []) → KeptHears old (record old { held = held }) (event ∷ []) goes_on
 kept_hears_event old held event goes_on h takes outside want =
     kept_hears old (record old { held = held }) (event ∷ []) goes_on refl (keeps_event old held event goes_on h takes outside) want
@@ -139,7 +139,7 @@ kept_hears_event old held event goes_on h takes outside want =
 -- Texts.
 
 -- a text begins
-pub keeps_text : (old : Kept) (held : Held) (kind : TextKind) (cuts : Bool) → cuts ≡ may_cut kind → TakesInWhereFit old.held held (e.Text kind ∷ []) true →
+pub keeps_text : (old : Kept) (held : HeldParts) (kind : TextKind) (cuts : Bool) → cuts ≡ may_cut kind → TakesInWhereFit old.held held (e.Text kind ∷ []) true →
     KeepsMore old (record old { held = held; cuts = cuts; count = 0 }) (e.Text kind ∷ []) true
 keeps_text old held kind cuts is takes b k may small goes =
     let kept = holds_kept old.shown old.held held (e.Text kind ∷ []) (e.Text kind ∷ []) b true (record { holds = k.holds; weighs = k.weighs }) takes
@@ -179,7 +179,7 @@ text_is_small : (b : Construction) (t : Text) → b.text ≡ Some t → weight_o
 text_is_small b t is small = omega (arith, small, ap weight_of_text is)
 
 -- a part of a text
-pub keeps_part : (old : Kept) (held : Held) (part kept : List ℕ) (count : ℕ) (goes_on : Bool) → 0 < length part →
+pub keeps_part : (old : Kept) (held : HeldParts) (part kept : List ℕ) (count : ℕ) (goes_on : Bool) → 0 < length part →
     TakesInWhereFit old.held held (content_events kept) goes_on →
     kept ≡ cond old.cuts (take (suc old.shown - old.count) part) part →
     count ≡ cond old.cuts (min (old.count + length part) (2 ^ 64 - 1)) old.count →
@@ -228,7 +228,7 @@ keeps_part old held part kept count goes_on full takes is_kept counted b k may s
         same_count false is_cut same few = ap (λ z. cond z (min (old.count + length part) (2 ^ 64 - 1)) old.count) is_cut ∙ same
 
 -- a text ends
-pub keeps_text_end : (old : Kept) (held : Held) (lengths : Vec ℕ Global) (goes_on : Bool) →
+pub keeps_text_end : (old : Kept) (held : HeldParts) (lengths : Vec ℕ Global) (goes_on : Bool) →
     (goes_on ≡ true → lengths.items ≡ old.lengths.items ++ longer old.shown old.count) → TakesInWhereFit old.held held (e.TextEnd ∷ []) goes_on →
     KeepsMore old (record old { held = held; lengths = lengths }) (e.TextEnd ∷ []) goes_on
 keeps_text_end old held lengths goes_on added takes b k may small goes =
@@ -282,7 +282,7 @@ whole_text_passes shown kind bytes kept b begins whole same =
     }
 
 -- a text that is told whole
-pub keeps_whole_text : (old : Kept) (held : Held) (lengths : Vec ℕ Global) (kind : ReadKind) (bytes kept : List ℕ) (goes_on : Bool) → IsTextOf kind bytes →
+pub keeps_whole_text : (old : Kept) (held : HeldParts) (lengths : Vec ℕ Global) (kind : ReadKind) (bytes kept : List ℕ) (goes_on : Bool) → IsTextOf kind bytes →
     kept ≡ take (suc old.shown - 0) bytes → (goes_on ≡ true → lengths.items ≡ old.lengths.items ++ longer old.shown (length bytes)) →
     TakesInWhereFit old.held held (whole_text_events kind kept) goes_on →
     KeepsMore old (record old { held = held; lengths = lengths }) (whole_text_events kind bytes) goes_on

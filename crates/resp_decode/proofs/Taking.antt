@@ -15,7 +15,7 @@ use Rattle.resp_decode.specs.Fits.{IsContentAlone, MayAllCome, event_weight, eve
 use Rattle.resp_decode.specs.Weights.{format_weight}
 use Rattle.resp_decode.specs.Hearing.{HasHeard, TakesIn, TakesInWhereFit}
 use Rattle.resp_decode.specs.Holding.{construction_of}
-use Rattle.resp_decode.specs.declared.held.Held.{Held}
+use Rattle.resp_decode.specs.declared.held.HeldParts.{HeldParts}
 use Rattle.resp_decode.proofs.Comes.{first_come}
 use Rattle.resp_decode.proofs.Folds.{with_events-append, without_text}
 use Rattle.resp_decode.proofs.HeldLemmas.{content_held, content_adds}
@@ -32,7 +32,7 @@ events_weight-append [] later b = omega arith
 events_weight-append (x ∷ es) later b = omega (arith, events_weight-append es later (with_event x b))
 
 -- a call after a call takes in the events of both
-pub takes_in_both : (old between new : Held) (first second : Events) (goes_on : Bool) → TakesInWhereFit old between first true →
+pub takes_in_both : (old between new : HeldParts) (first second : Events) (goes_on : Bool) → TakesInWhereFit old between first true →
     TakesInWhereFit between new second goes_on → TakesInWhereFit old new (first ++ second) goes_on
 takes_in_both old between new first second goes_on one two may room goes =
     let b = construction_of old in
@@ -62,18 +62,18 @@ room_for given more h =
     }
 
 -- what was taken in was heard
-heard : (old new : Held) (given more : Events) → HasHeard old given → TakesIn old new more → HasHeard new (given ++ more)
+heard : (old new : HeldParts) (given more : Events) → HasHeard old given → TakesIn old new more → HasHeard new (given ++ more)
 heard old new given more h t = record {
   holds = t.holds ∙ ap (with_events more) h.holds ∙ sym (with_events-append given more nothing);
   weighs = omega (arith, t.weighs, h.weighs, events_weight-append given more nothing, ap (events_weight more) h.holds);
 }
 
 -- a call that hears these events, or stops where they want memory
-abbrev pub HeldHears : Held → Held → Events → Bool → Type 0
+abbrev pub HeldHears : HeldParts → HeldParts → Events → Bool → Type 0
 HeldHears old new = Hears {O = Unit {0}} (λ since. HasHeard old) (λ since. HasHeard new) (λ since. WantMemory)
 
 -- a call that takes in events where they fit hears them, where it may stop at the last of them
-hears_or_stops : (old new : Held) (more : Events) (goes_on : Bool) → TakesInWhereFit old new more goes_on →
+hears_or_stops : (old new : HeldParts) (more : Events) (goes_on : Bool) → TakesInWhereFit old new more goes_on →
     ((given : Events) → HasHeard old given → goes_on ≡ false → WantMemory (given ++ more)) →
     HeldHears old new more goes_on
 hears_or_stops old new more true takes stops since given h may =
@@ -89,12 +89,12 @@ brief_last [] later h = h
 brief_last (x ∷ es) later h = brief_last es later h.1
 
 -- a call over events of a text or an aggregate hears them, and may stop
-pub hears_events : (old new : Held) (more : Events) (goes_on : Bool) → TakesInWhereFit old new more goes_on → WantMemory more →
+pub hears_events : (old new : HeldParts) (more : Events) (goes_on : Bool) → TakesInWhereFit old new more goes_on → WantMemory more →
     HeldHears old new more goes_on
 hears_events old new more goes_on takes want = hears_or_stops old new more goes_on takes (λ given h stop brief. want (brief_last given more brief))
 
 -- a call over a scalar without content hears it, and stops in an aggregate alone
-pub hears_scalar : (old new : Held) (event : Event) (goes_on : Bool) → TakesInWhereFit old new (event ∷ []) goes_on →
+pub hears_scalar : (old new : HeldParts) (event : Event) (goes_on : Bool) → TakesInWhereFit old new (event ∷ []) goes_on →
     (goes_on ≡ false → (construction_of old).groups ≡ [] → ⊥) → HeldHears old new (event ∷ []) goes_on
 hears_scalar old new event goes_on takes within =
     hears_or_stops old new (event ∷ []) goes_on takes (λ given h stop brief.
@@ -122,7 +122,7 @@ whole_text_weighs kind s b =
     )
 
 -- a text that is told whole is taken in where its value is put in its place
-pub takes_in_text : (old new : Held) (kind : TextKind) (s : List ℕ) (goes_on : Bool) → format_weight kind + end_weight kind s ≡ 3 →
+pub takes_in_text : (old new : HeldParts) (kind : TextKind) (s : List ℕ) (goes_on : Bool) → format_weight kind + end_weight kind s ≡ 3 →
     (goes_on ≡ true → construction_of new ≡ with_value (scalar (scalar_of kind s)) (construction_of old)) →
     new.weight ≡ min (old.weight + (length s + 3)) (2 ^ 64 - 1) →
     TakesInWhereFit old new (e.Text kind ∷ (content_events s ++ e.TextEnd ∷ [])) goes_on
@@ -142,7 +142,7 @@ content_alone_weighs (e.Verbatim format) s alone = absurd alone
 content_alone_weighs (e.Big negative) s alone = absurd alone
 
 -- a part of a text is taken in where its bytes are appended to the text's
-pub takes_in_part : (old new : Held) (part : List ℕ) (goes_on : Bool) →
+pub takes_in_part : (old new : HeldParts) (part : List ℕ) (goes_on : Bool) →
     (goes_on ≡ true → construction_of new ≡ record (construction_of old) { text = with_bytes (construction_of old).text part }) →
     (old.weight + length part < 2 ^ 64 → new.weight ≡ old.weight + length part) → TakesInWhereFit old new (content_events part) goes_on
 takes_in_part old new part goes_on holds weighs may room goes =
@@ -151,7 +151,7 @@ takes_in_part old new part goes_on holds weighs may room goes =
     record { holds = holds goes ∙ sym (content_held part b.text b); weighs = omega (arith, weighs (omega (arith, room, sum)), sum) }
 
 -- a scalar without content is taken in where it is put in its place
-pub takes_in_scalar : (old new : Held) (event : Event) (x : Datum) (goes_on : Bool) →
+pub takes_in_scalar : (old new : HeldParts) (event : Event) (x : Datum) (goes_on : Bool) →
     event_weight event (construction_of old) ≡ 3 → with_event event (construction_of old) ≡ with_value x (construction_of old) →
     (goes_on ≡ true → construction_of new ≡ with_value x (construction_of old)) →
     new.weight ≡ min (old.weight + (0 + 3)) (2 ^ 64 - 1) → TakesInWhereFit old new (event ∷ []) goes_on

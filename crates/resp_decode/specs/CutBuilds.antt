@@ -3,7 +3,7 @@ use Rattle.std.specs.Prelude.{ℕ, Bool, true, false, if◌then◌else◌, Optio
 use Rattle.resp_value.specs.Data.{Datum}
 use Rattle.resp_fronts.specs.Events.{TextKind}
 use Rattle.resp_fronts.specs.Events as e
-use Rattle.resp_cut.specs.Cuts.{cut, cut_lengths, kept_part}
+use Rattle.resp_value.specs.Cuts.{cut, cut_lengths, kept_part}
 use Rattle.resp_decode.specs.Builds.{Group, Text, Construction}
 
 -- whether only the first bytes of a text of this kind are kept; the digits of a big number are all kept

@@ -6,8 +6,8 @@ use Rattle.resp_value.specs.Spellings.{IsSpelling}
 use Rattle.resp_scan.specs.Reading.{AreDue, Events}
 use Rattle.resp_scan.specs.Kinds as kinds
 use Rattle.resp_scan.specs.declared.event.Fault.{Fault}
-use Rattle.resp_cut.specs.Cuts.{IsCutOf}
-use Rattle.resp_cut.specs.declared.cut_value.CutValue.{CutValue}
+use Rattle.resp_value.specs.Cuts.{IsCutOf}
+use Rattle.resp_value.specs.declared.cut_value.CutValue.{CutValue}
 use Rattle.resp_decode.specs.Builds.{built_from}
 use Rattle.resp_decode.specs.CutBuilds.{cut_construction}
 use Rattle.resp_decode.specs.Keeping.{HasKept, KeepsNothing}

@@ -10,8 +10,8 @@ use Rattle.resp_decode.specs.Builds as b
 use Rattle.resp_decode.specs.declared.group.Group.{Group}
 use Rattle.resp_decode.specs.declared.group.Group.TheVariants as group
 use Rattle.resp_decode.specs.declared.group.Pairs.{Pairs}
-use Rattle.resp_decode.specs.declared.text.Text.{Text}
-use Rattle.resp_decode.specs.declared.held.Held.{Held}
+use Rattle.resp_decode.specs.declared.text.PartialText.{PartialText}
+use Rattle.resp_decode.specs.declared.held.HeldParts.{HeldParts}
 
 -- the datum of a value, if there is one
 abbrev pub maybe_datum : Option Value → Option Datum
@@ -36,16 +36,16 @@ group_of (group.Attr pairs) = record { kind = d.Attr; members = pairs_data pairs
 group_of (group.Push members) = record { kind = d.Push; members = map datum_of members.items }
 
 -- the text that is being read
-abbrev pub text_held : Text → b.Text
+abbrev pub text_held : PartialText → b.Text
 text_held text = record { kind = text_kind_of text.kind; content = text.bytes.items }
 
 -- the text that is being read, if there is one
-abbrev pub maybe_text : Option Text → Option b.Text
+abbrev pub maybe_text : Option PartialText → Option b.Text
 maybe_text None = None
 maybe_text (Some text) = Some (text_held text)
 
 -- all that is held
-abbrev pub construction_of : Held → Construction
+abbrev pub construction_of : HeldParts → Construction
 construction_of held = record {
   groups = reverse (map group_of held.groups.items);
   text = maybe_text held.text;

@@ -19,8 +19,8 @@ use std::alloc::Global;
 ///
 /// Of each text it keeps one byte more than is shown, and the length of each text that has more
 /// bytes than are shown. All other bytes are scanned and not kept. So the memory for a reply does
-/// not grow with the length of its texts. The digits of a big number are all kept; the limit of
-/// length applies to them.
+/// not grow with the length of its texts. The digits of a big number are all kept; the limit
+/// `length` applies to them.
 ///
 /// It reads the same encodings as a [`Decoder`](crate::decoder::Decoder) with the same limits, and
 /// fails at the same bytes with the same causes.
@@ -41,7 +41,7 @@ impl CutDecoder {
     ghost use Rattle.resp_value.specs.Rules.{WithinTotal, rules_under};
     ghost use Rattle.resp_value.specs.Spellings.{IsViable};
 
-    /// Makes a decoder of this version with these limits, before the first value. It keeps
+    /// Creates a decoder of this version with these limits, before the first value. It keeps
     /// `shown + 1` bytes of each text. Does not allocate.
     pub fn new(alloc: Global, version: Version, limits: &Limits, shown: usize) -> CutDecoder
         ensures nothing_taken { HasTaken result [] }
@@ -127,8 +127,8 @@ impl CutDecoder {
     ///
     /// # Errors
     ///
-    /// - `Truncated` inside a value, at the number of its bytes that were read.
-    /// - The earlier fault, after a fault.
+    /// - `Truncated` inside a value. Its byte is the number of bytes of this value that were read.
+    /// - After a fault, the same fault again.
     pub fn finish(&self) -> Result<(), Fault>
         ensures only_between_values { WhereTaken self.now (λ front. IsOk result ↔ (front ≡ [])) }
         ensures truncated_inside_a_value { WhereTaken self.now (λ front.
@@ -169,8 +169,8 @@ impl CutDecoder {
     }
 
     /// Returns a measure of the memory held for the current value: three for each finished node and
-    /// each open aggregate, and one for each byte of content that is kept. A node has one length at
-    /// most, which counts nothing. The measure is never more than the number of bytes read, and it
+    /// each open aggregate, and one for each byte of content that is kept. The length of a
+    /// longer text does not count. The measure is never more than the number of bytes read, and it
     /// is 0 after a fault.
     pub fn weight(&self) -> u64
         ensures weight_of_front { WhereTaken self.now

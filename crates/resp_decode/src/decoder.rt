@@ -7,7 +7,7 @@ ghost use Rattle.resp_scan.specs.Listening.{fault_of};
 ghost use Rattle.resp_value.specs.declared.cause.Cause.TheVariants as cause;
 
 use crate::fed::Fed;
-use crate::held::Held;
+use crate::held::HeldParts;
 use resp_scan::event::{Busy, Fault, ScanError};
 use resp_scan::scanner::Scanner;
 use resp_value::cause::Cause;
@@ -20,7 +20,7 @@ use std::alloc::Global;
 #[derive(Drop)]
 pub struct Decoder {
     scanner: Scanner,
-    held: Held,
+    held: HeldParts,
     /// The bytes read are a prefix of a value, or there was a fault.
     pub ghost reading: { ∥ TakesOrStands (HasHeard held) (HoldsNothing held) scanner ∥₁ },
 }
@@ -32,7 +32,7 @@ impl Decoder {
     ghost use Rattle.resp_value.specs.Rules.{WithinTotal, rules_under};
     ghost use Rattle.resp_value.specs.Spellings.{IsViable};
 
-    /// Makes a decoder of this version with these limits, before the first value. Does not
+    /// Creates a decoder of this version with these limits, before the first value. Does not
     /// allocate.
     ///
     /// # Examples
@@ -56,7 +56,7 @@ impl Decoder {
     {
         Decoder {
             scanner: Scanner::new(version, limits),
-            held: Held::new(alloc),
+            held: HeldParts::new(alloc),
         }
     }
 

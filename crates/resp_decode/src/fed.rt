@@ -1,6 +1,6 @@
 //! The results of feeding a piece to a decoder.
 
-use resp_cut::CutValue;
+use resp_value::CutValue;
 use resp_value::value::Value;
 
 /// The result of feeding a piece to a decoder.

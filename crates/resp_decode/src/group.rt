@@ -32,7 +32,7 @@ impl Pairs {
     ghost use Rattle.resp_decode.specs.Holding.{pairs_data};
     ghost use Rattle.resp_decode.specs.Fits.{IsMemberCount};
 
-    /// Makes an empty list with room for `pairs` pairs.
+    /// Creates an empty list with room for `pairs` pairs.
     #[inline]
     fn with_room(alloc: Global, pairs: usize) -> Result<Pairs, AllocError>
         ensures { IfOk result (λ made. pairs_data made ≡ []) }
@@ -107,7 +107,7 @@ impl Group {
     ghost use Rattle.resp_decode.specs.Holding.{group_of};
     ghost use Rattle.resp_decode.specs.Fits.{IsMemberCount};
 
-    /// Makes an aggregate without members, with room for `room` members or pairs.
+    /// Creates an aggregate without members, with room for `room` members or pairs.
     #[inline]
     pub(crate) fn with_room(alloc: Global, kind: OpenKind, room: usize) -> Result<Group, AllocError>
         requires few_at_most { room ≤ 16 }

@@ -10,7 +10,7 @@ ghost use Rattle.resp_value.specs.Kinds.{kind_of};
 ghost use Rattle.resp_value.specs.Values.{datum_of};
 
 use crate::group::Group;
-use crate::text::{Text, content_value, format_weight};
+use crate::text::{PartialText, content_value, format_weight};
 use resp_scan::event::TextKind;
 use resp_scan::listener::Listener;
 use resp_value::kind::OpenKind;
@@ -22,27 +22,27 @@ const MOST_RESERVED: u64 = 16;
 
 /// The parts of a value that a decoder holds.
 #[derive(Drop)]
-pub(crate) struct Held {
+pub(crate) struct HeldParts {
     alloc: Global,
     /// The open aggregates, the innermost last.
     groups: Vec<Group>,
-    text: Option<Text>,
+    text: Option<PartialText>,
     /// The outermost value, once it is complete.
     whole: Option<Value>,
     weight: u64,
 }
 
-impl Held {
+impl HeldParts {
     ghost use Rattle.resp_decode.specs.Builds.{nothing, with_value, with_events, with_event};
     ghost use Rattle.resp_decode.specs.Hearing.{TakesInWhereFit};
     ghost use Rattle.resp_decode.specs.Holding.{construction_of, maybe_datum};
 
-    /// Makes an empty state. Does not allocate.
-    pub(crate) fn new(alloc: Global) -> Held
+    /// Creates an empty state. Does not allocate.
+    pub(crate) fn new(alloc: Global) -> HeldParts
         ensures holds { construction_of result ≡ nothing }
         ensures weighs { result.weight ≡ 0 }
     {
-        Held {
+        HeldParts {
             alloc,
             groups: Vec::new(alloc),
             text: None,
@@ -65,7 +65,7 @@ impl Held {
         ensures weighs { self.new.weight ≡ 0 }
         ensures holds { construction_of self.new ≡ nothing }
     {
-        *self = Held::new(self.alloc);
+        *self = HeldParts::new(self.alloc);
     }
 
     /// Takes out the outermost value if it is complete. Nothing else is held then.
@@ -124,7 +124,7 @@ impl Held {
         ensures { TakesInWhereFit self.old self.new (e.Text (text_kind_of kind) ∷ []) true }
     {
         self.add_weight(format_weight(kind));
-        self.text = Some(Text::new(self.alloc, kind));
+        self.text = Some(PartialText::new(self.alloc, kind));
     }
 
     /// Adds a part to the text that is being read. Returns false if no text is being read or an
@@ -217,7 +217,7 @@ impl Held {
     }
 }
 
-impl Listener for Held {
+impl Listener for HeldParts {
     ghost use Rattle.resp_decode.specs.Brief.{WantMemory};
     ghost use Rattle.resp_decode.specs.Hearing.{HasHeard};
 

@@ -2,15 +2,15 @@
 //! longer texts.
 
 ghost use Rattle.std.specs.Prelude.{◌≡◌, ◌-◌, ◌++◌, ℕ, [], None, Some, suc, take, true, IfNone, IfSome};
-ghost use Rattle.resp_cut.specs.Cuts.{longer};
+ghost use Rattle.resp_value.specs.Cuts.{longer};
 ghost use Rattle.resp_decode.specs.CutBuilds.{may_cut};
 ghost use Rattle.resp_scan.specs.Kinds.{text_kind_of};
 ghost use Rattle.resp_scan.specs.Listening.{IsTextOf};
 
-use crate::held::Held;
-use resp_cut::CutValue;
+use crate::held::HeldParts;
 use resp_scan::event::TextKind;
 use resp_scan::listener::Listener;
+use resp_value::CutValue;
 use resp_value::kind::OpenKind;
 use resp_value::value::Value;
 use std::alloc::Global;
@@ -20,7 +20,7 @@ use std::mem;
 #[derive(Drop)]
 pub(crate) struct Kept {
     alloc: Global,
-    held: Held,
+    held: HeldParts,
     /// The number of bytes of each text that are shown. One more is kept.
     shown: usize,
     /// Whether the text that is being read may be cut.
@@ -35,14 +35,14 @@ impl Kept {
     ghost use Rattle.resp_decode.specs.Holding.{construction_of, maybe_datum};
     ghost use Rattle.resp_decode.specs.Keeping.{KeepsNothing};
 
-    /// Makes an empty state. Does not allocate.
+    /// Creates an empty state. Does not allocate.
     pub(crate) fn new(alloc: Global, shown: usize) -> Kept
         ensures nothing_kept { KeepsNothing result }
         ensures shown { result.shown ≡ shown }
     {
         Kept {
             alloc,
-            held: Held::new(alloc),
+            held: HeldParts::new(alloc),
             shown,
             cuts: true,
             count: 0,

@@ -16,25 +16,25 @@ use resp_value::line::Line;
 use resp_value::value::Value;
 use std::alloc::{AllocError, Global};
 
-/// The most bytes of a freed block that the C library keeps for a quick reuse.
+/// The maximum number of bytes of a freed block that the C library keeps for a quick reuse.
 const AT_HAND: usize = 1_032;
 
 /// A text whose end has not been read.
 #[derive(Drop)]
-pub(crate) struct Text {
+pub(crate) struct PartialText {
     kind: TextKind,
     bytes: Vec<u8>,
 }
 
-impl Text {
+impl PartialText {
     ghost use Rattle.resp_decode.specs.Holding.{text_held};
 
     /// Makes a text without content. Does not allocate.
     #[inline]
-    pub(crate) fn new(alloc: Global, kind: TextKind) -> Text
+    pub(crate) fn new(alloc: Global, kind: TextKind) -> PartialText
         ensures { text_held result ≡ record { kind = text_kind_of kind; content = [] } }
     {
-        Text {
+        PartialText {
             kind,
             bytes: Vec::new(alloc),
         }
@@ -82,7 +82,7 @@ impl Text {
         ensures { IfSome result (λ value.
             datum_of value ≡ text_value (text_held self).kind (text_held self).content) }
     {
-        let Text { kind, bytes } = self;
+        let PartialText { kind, bytes } = self;
         match kind {
             TextKind::Simple => match Line::new(bytes) {
                 Ok(line) => Some(Value::Simple(line)),

@@ -7,7 +7,7 @@ use Rattle.resp_value.specs.Numbers.{decimal}
 use Rattle.resp_value.specs.Rules.{Rules}
 use Rattle.resp_value.specs.Spellings.{IsSpelling}
 use Rattle.resp_value.specs.Canonical.{canonical_text, Fits}
-use Rattle.resp_value.specs.Devices.{Appends, count_after}
+use Rattle.resp_io.specs.Devices.{Appends, count_after}
 use Rattle.resp_value.specs.Trees.{kind_byte}
 use Rattle.resp_encode.specs.Refusals.{IsFirstFault}
 use Rattle.resp_encode.specs.declared.error.EncodeError.{EncodeError}

@@ -6,7 +6,7 @@ ghost use Rattle.resp_encode.specs.Laws.{WhatWasReadIsRefusedForTotalOrMemory, W
 use resp_value::laws as grammar;
 
 /// A value that was read can be encoded. Under the rules by which it was read it has at most one
-/// fault: its text may exceed the limit of total (`total_or_memory`). If the limits forbid streamed
+/// fault: its text may exceed the limit `total` (`total_or_memory`). If the limits forbid streamed
 /// forms, it does not have this fault either (`memory_alone`). So [`crate::encode`] fails for it
 /// only for that reason, or when out of memory.
 pub fn what_was_read_can_be_encoded()

@@ -25,7 +25,8 @@ pub(crate) struct Measure {
     pub(crate) depth: u64,
     /// The number of bytes of the longest content.
     pub(crate) longest: u64,
-    /// The most members of one array, set or push, or pairs of one map or attribute.
+    /// The greatest number of members of one array, set or push, or of pairs of one map or
+    /// attribute.
     pub(crate) most_items: u64,
     /// The number of bytes of the text, if a `u64` holds it.
     pub(crate) size: Option<u64>,

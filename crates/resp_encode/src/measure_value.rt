@@ -54,7 +54,7 @@ pub(crate) fn int_size(number: i64) -> u64
     if number < 0 { digits + 4 } else { digits + 3 }
 }
 
-/// Returns the measure of an integer. Its digits do not count for the limit of length.
+/// Returns the measure of an integer. Its digits do not count for the limit `length`.
 #[inline]
 pub(crate) fn measure_int(number: &i64) -> Measure
     ensures found { (version : Version) → Describes version (scalar (d.Int number.now)) result }
@@ -108,7 +108,7 @@ pub(crate) fn measure_bulk(bytes: &[u8]) -> Measure
     Measure::scalar(true, counted, string_size(counted))
 }
 
-/// Returns the measure of a bulk string of this many bytes, whatever they are.
+/// Returns the measure of a bulk string of this many bytes.
 #[inline]
 pub(crate) fn measure_bulk_of(counted: u64) -> Measure
     ensures { (version : Version) (bytes : List ℕ) → length bytes ≡ counted →

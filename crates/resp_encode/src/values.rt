@@ -34,8 +34,8 @@ use resp_value::version::Version;
 /// - `NotInVersion`: the version does not have a type of the value. Version 2 has nulls, integers,
 ///   simple strings, simple errors, bulk strings and arrays.
 /// - `NestedPush`: the value holds a push inside another value.
-/// - `OverLimits`: the value exceeds the limit of depth, length, items or total, checked in this
-///   order.
+/// - `OverLimits`: the value exceeds the limit `depth`, `length`, `items` or `total`, checked in
+///   this order.
 /// - `OutOfMemory`: `out` could not grow. This never happens if its spare capacity holds the text.
 ///
 /// # Examples
@@ -148,7 +148,8 @@ pub fn encode_push(limits: &Limits, items: &[Value], out: &mut BytesMut) -> Resu
     Ok(())
 }
 
-/// Returns the length of a value's canonical text in bytes, whatever the limits. Does not allocate.
+/// Returns the length of a value's canonical text in bytes, regardless of the limits. Does not
+/// allocate.
 ///
 /// Returns `None` if and only if the version does not have a type of the value, the value holds a
 /// push inside another value, or the length exceeds a `u64`.

@@ -11,7 +11,7 @@ ghost use Rattle.resp_encode.specs.declared.error.EncodeError.{EncodeError};
 use crate::error::{EncodeError, EncodeToError};
 use crate::values::encode;
 use bytes::BytesMut;
-use resp_value::device::{Sink, write_all};
+use resp_io::device::{Sink, write_all};
 use resp_value::limits::Limits;
 use resp_value::value::Value;
 use resp_value::version::Version;

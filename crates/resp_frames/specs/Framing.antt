@@ -6,7 +6,7 @@ use Rattle.resp_scan.specs.declared.event.Fault.{Fault}
 use Rattle.resp_scan.specs.Kinds.{rules_of}
 use Rattle.resp_scan.specs.Reading.{Events, HasNoValue, HasRead, IsRefused, IsSpelled}
 use Rattle.resp_frames.specs.declared.begun.Begun.{Begun}
-use Rattle.resp_frames.specs.declared.begun.Held.{Held}
+use Rattle.resp_frames.specs.declared.begun.BegunValue.{BegunValue}
 use Rattle.resp_frames.specs.declared.error.FrameError.{FrameError}
 use Rattle.resp_frames.specs.declared.error.FrameError.TheVariants as error
 use Rattle.resp_frames.specs.declared.frame.Frame.{Frame}
@@ -22,7 +22,7 @@ abbrev pub frame_limits : Frames → Bounds
 frame_limits f = f.limits
 
 -- these bytes are held, a scanner with these rules has read them, and no value has ended
-pub record IsHeld (rules : Rules) (held : Held) (front : List ℕ) : Type 0 where
+pub record IsHeld (rules : Rules) (held : BegunValue) (front : List ℕ) : Type 0 where
   pub bytes : held.bytes.items ≡ front
   pub given : Events
   pub read : HasRead held.scanner.value front given
@@ -77,7 +77,7 @@ abbrev pub UsesWithin : {A : Type 0} → (A → ℕ) → List ℕ → Result (Op
 UsesWithin used piece result = IfOk result (λ found. IfSome found (λ value. used value ≤ length piece))
 
 -- the value that is held ends after this many bytes of the piece, at least one, and all its bytes are held
-pub record EndsWithin (rules : Rules) (held : Held) (front piece : List ℕ) (used : ℕ) : Type 0 where
+pub record EndsWithin (rules : Rules) (held : BegunValue) (front piece : List ℕ) (used : ℕ) : Type 0 where
   pub bytes : held.bytes.items ≡ front ++ take used piece
   pub within : used ≤ length piece
   pub some : 0 < used

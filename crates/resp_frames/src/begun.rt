@@ -1,4 +1,4 @@
-//! The value that a connection has begun.
+//! The incomplete value of a connection.
 
 ghost use Rattle.resp_frames.specs.Framing.{HasBegun};
 ghost use Rattle.resp_value.specs.Rules.{Rules};
@@ -6,17 +6,17 @@ ghost use Rattle.std.specs.Prelude.{◌≡◌, ◌↔◌, ℕ, List, [], IsTrue}
 
 use resp_scan::scanner::Scanner;
 
-/// The bytes of a value that has begun, and the scanner that has read them.
+/// The bytes of an incomplete value, and the scanner that has read them.
 #[derive(Drop)]
-pub(crate) struct Held {
+pub(crate) struct BegunValue {
     pub(crate) scanner: Box<Scanner>,
     pub(crate) bytes: Vec<u8>,
 }
 
-/// The value that a connection has begun. Between two values it holds no memory.
+/// The incomplete value of a connection. Between two values it holds no memory.
 #[derive(Drop)]
 pub struct Begun {
-    pub(crate) held: Option<Box<Held>>,
+    pub(crate) held: Option<Box<BegunValue>>,
 }
 
 impl Begun {
@@ -27,7 +27,7 @@ impl Begun {
         Begun { held: None }
     }
 
-    /// Returns whether no byte of a value has come.
+    /// Returns whether no byte of a value was received.
     pub fn is_empty(&self) -> bool
         ensures { (rules : Rules) (front : List ℕ) → HasBegun rules self.now front →
             IsTrue result ↔ (front ≡ []) }

@@ -13,14 +13,14 @@ use crate::frames::Frames;
 use crate::words::{CommandFrame, Request, is_empty_array, words_of};
 
 impl Frames {
-    /// Finds the end of the next command of a client, as [`Frames::next`] does. A command is an array
-    /// of at least one bulk string and of nothing else. A command that lies whole in the piece is
-    /// recognised without the scanner. Its words are counted, and its class is found in the table of
-    /// commands. This allocates nothing.
+    /// Finds the end of the next command of a client, as [`Frames::next`] does. A command is an
+    /// array of at least one bulk string and nothing else. A command that is complete in the piece
+    /// is recognised without the scanner. Its words are counted, and its class is found in the
+    /// table of commands. This allocates nothing.
     ///
     /// # Errors
     ///
-    /// Those of [`Frames::next`], and `NotACommand` if the value is no command.
+    /// Those of [`Frames::next`], and `NotACommand` if the value is not a command.
     #[inline(always)]
     pub fn next_command<'a>(
         &mut self,
@@ -58,8 +58,8 @@ impl Frames {
         }
     }
 
-    /// Finds the end of the next command of a client, as [`Frames::next_command`] does, or of an array of no
-    /// words or null.
+    /// Finds the end of the next command of a client, as [`Frames::next_command`] does, or of an
+    /// empty array or null.
     ///
     /// # Errors
     ///
@@ -105,7 +105,7 @@ impl Frames {
         self.scan_request(begun, piece)
     }
 
-    /// Does what [`Frames::next_request`] does, with the scanner.
+    /// Like [`Frames::next_request`], with the scanner.
     #[inline(never)]
     fn scan_request<'a>(
         &mut self,

@@ -6,7 +6,7 @@ ghost use Rattle.resp_frames.specs.Texts.{text_of, used_of};
 /// The bytes of a whole value.
 #[derive(Debug, Drop)]
 pub enum Frame<'a> {
-    /// The value lies at the beginning of the piece.
+    /// The value is at the beginning of the piece.
     InPiece(&'a [u8]),
     /// The value began in an earlier piece. Its bytes were copied.
     Held {

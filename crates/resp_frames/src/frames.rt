@@ -8,11 +8,11 @@ ghost use Rattle.resp_scan.specs.Kinds.{rules_of};
 ghost use Rattle.resp_scan.specs.Listening.{HearsPiece, HearsRefusal, HearsValue, IfRefused, IfUsedUp, IfWhole};
 ghost use Rattle.resp_scan.specs.Reading.{Events, HasNoValue, HasRead};
 
-use crate::begun::{Begun, Held};
+use crate::begun::{Begun, BegunValue};
 use crate::error::FrameError;
 use crate::frame::Frame;
 use crate::heads::Heads;
-use resp_nodes::plain_end;
+use resp_flat::plain_end;
 use resp_scan::event::{ScanError, Scanned};
 use resp_scan::nobody::Nobody;
 use resp_scan::scanner::Scanner;
@@ -69,17 +69,17 @@ impl Frames {
         self.limits
     }
 
-    /// Finds the end of the value that the connection has begun, or of the value at the beginning of
-    /// the piece. Returns the bytes of the value, or `None` if it does not end in the piece. Then all
-    /// bytes of the piece are held. Call it again with the bytes after the value.
+    /// Finds the end of the incomplete value of the connection, or of the value at the beginning of
+    /// the piece. Returns the bytes of the value, or `None` if it does not end in the piece. Then
+    /// all bytes of the piece are held. Call it again with the bytes after the value.
     ///
     /// # Errors
     ///
     /// - `Fault` at the first byte that no value within the limits could contain there.
-    /// - `OutOfMemory` if an allocation fails. Only a value that does not lie whole in a piece needs
-    ///   memory.
+    /// - `OutOfMemory` if an allocation fails. Only a value that is cut between pieces needs memory.
     ///
-    /// The connection is between two values afterwards, and the bytes that it had begun are lost.
+    /// The connection is between two values afterwards, and the bytes of its incomplete value are
+    /// lost.
     #[inline(always)]
     pub fn next<'a>(
         &mut self,
@@ -112,7 +112,7 @@ impl Frames {
         self.next_shared(begun, piece)
     }
 
-    /// Does what [`Frames::next`] does, with the loop that all other callers share.
+    /// Like [`Frames::next`], with the loop that all other callers share.
     #[inline(never)]
     pub(crate) fn next_shared<'a>(
         &mut self,
@@ -137,7 +137,7 @@ impl Frames {
         }
     }
 
-    /// Does what [`Frames::next`] does if no value has begun.
+    /// Like [`Frames::next`], if the connection has no incomplete value.
     #[inline(always)]
     fn begin<'a, const LOOP: usize>(
         &mut self,
@@ -173,7 +173,7 @@ impl Frames {
         }
     }
 
-    /// Begins anew between two values.
+    /// Starts again between two values.
     #[inline(never)]
     fn restart(&mut self)
         ensures ready { IsReady self.new }
@@ -211,7 +211,7 @@ impl Frames {
 
     /// Copies the bytes that the scanner has read, and returns them with the scanner. A new scanner
     /// takes its place.
-    fn hold(&mut self, piece: &[u8]) -> Result<Box<Held>, AllocError>
+    fn hold(&mut self, piece: &[u8]) -> Result<Box<BegunValue>, AllocError>
         ensures scanner { IfOk result (λ held. held.value.scanner ≡ self.old.scanner) }
         ensures bytes { IfOk result (λ held. held.value.bytes.items ≡ piece.now) }
         ensures ready { OnOk result (IsReady self.new) }
@@ -220,11 +220,12 @@ impl Frames {
         let bytes = copied(self.alloc, piece, self.scanner.needed())?;
         let unused = Box::new(self.alloc, Scanner::new(self.version, &self.limits))?;
         let scanner = mem::replace(&mut self.scanner, unused);
-        Ok(Box::new(self.alloc, Held { scanner, bytes })?)
+        Ok(Box::new(self.alloc, BegunValue { scanner, bytes })?)
     }
 }
 
-/// Returns the plain reply at the beginning of the piece, if it lies whole in it. No scanner is used.
+/// Returns the plain reply at the beginning of the piece, if the piece contains all of it. No scanner is
+/// used.
 #[inline(always)]
 fn whole_reply<'a>(version: Version, limits: &Limits, piece: &'a [u8]) -> Option<Frame<'a>>
     ensures { IfSome result (λ frame.
@@ -275,11 +276,12 @@ fn frame_error(error: ScanError) -> FrameError
     }
 }
 
-/// Does what [`Frames::next`] does with the bytes that are held. The connection has begun no value.
+/// Like [`Frames::next`], with the bytes that are held. The connection itself has no incomplete
+/// value.
 #[inline(never)]
 fn resume<'a>(
     begun: &mut Begun,
-    held: Box<Held>,
+    held: Box<BegunValue>,
     piece: &'a [u8],
 ) -> Result<Option<Frame<'a>>, FrameError>
     ensures whole { (rules : Rules) (front : List ℕ) → IsHeld rules held.value front →
@@ -309,7 +311,7 @@ fn resume<'a>(
 }
 
 /// Reads the piece up to the end of the value that is held, and holds the bytes that were read.
-fn extend(held: &mut Held, piece: &[u8]) -> Result<Scanned, FrameError>
+fn extend(held: &mut BegunValue, piece: &[u8]) -> Result<Scanned, FrameError>
     ensures whole { (rules : Rules) (front : List ℕ) → IsHeld rules held.old front →
         IfOk result (λ scanned. scanned.is_whole ≡ true →
         EndsWithin rules held.new front piece.now scanned.used) }
@@ -336,9 +338,9 @@ fn extend(held: &mut Held, piece: &[u8]) -> Result<Scanned, FrameError>
 }
 
 /// Returns the bytes that are held, and drops the scanner.
-fn bytes_of(held: Box<Held>) -> Vec<u8>
+fn bytes_of(held: Box<BegunValue>) -> Vec<u8>
     ensures { result.items ≡ held.value.bytes.items }
 {
-    let Held { scanner: _, bytes } = Box::into_inner(held);
+    let BegunValue { scanner: _, bytes } = Box::into_inner(held);
     bytes
 }

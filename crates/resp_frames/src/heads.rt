@@ -1,4 +1,4 @@
-//! The first bytes of the commands that came last.
+//! The first bytes of the last commands.
 
 ghost use Rattle.std.specs.Prelude.{◌≡◌, ◌+◌, ◌%◌, ◌<◌, ◌≤◌, ◌∷◌, List, ℕ, [], length, slice_index, IfNone, IfSome};
 ghost use Rattle.resp_frames.specs.Commands.{IsFrameOfWords};
@@ -12,22 +12,22 @@ use resp_value::limits::Limits;
 /// The number of heads that are known at once.
 const PLACES: usize = 16;
 
-/// The first bytes of the commands that came last. Most commands of clients begin as one of those
-/// before them, so that neither the name nor the head of the array is read again.
+/// The first bytes of the last commands. Most commands begin like an earlier one, so neither the
+/// head of the array nor the name is read again.
 #[derive(Drop)]
 pub(crate) struct Heads {
     known: [Option<KnownHead>; PLACES],
 }
 
 impl Heads {
-    /// Returns heads of which none is known.
+    /// Returns an empty list of known heads.
     pub(crate) fn new() -> Heads {
         Heads {
             known: [None; PLACES],
         }
     }
 
-    /// Returns the command at the beginning of the piece, if it lies whole in the piece.
+    /// Returns the command at the beginning of the piece, if the piece contains the whole command.
     #[inline(always)]
     pub(crate) fn find<'a>(&mut self, piece: &'a [u8], limits: &Limits) -> Option<CommandFrame<'a>>
         ensures command { IfSome result (λ found. IsFrameOfWords limits.now [] piece.now found) }
@@ -42,8 +42,8 @@ impl Heads {
         self.find_unknown(piece, limits)
     }
 
-    /// As `find`, if the head of the command is not known. From now on it is, unless the words of the
-    /// command decide its class.
+    /// Like `find`, if the head of the command is not known. Afterwards it is known, unless the
+    /// words of the command decide its class.
     #[inline(never)]
     fn find_unknown<'a>(&mut self, piece: &'a [u8], limits: &Limits) -> Option<CommandFrame<'a>>
         ensures command { IfSome result (λ found. IsFrameOfWords limits.now [] piece.now found) }
@@ -58,8 +58,8 @@ impl Heads {
     }
 }
 
-/// Returns the place of the head of a command: a hash of three bytes, which in most commands are the
-/// length of the name and its first two letters.
+/// Returns the index at which the head of a command is kept. It is a hash of three bytes. In most
+/// commands these are the length of the name and its first two letters.
 #[inline(always)]
 fn place_of(piece: &[u8]) -> usize
     ensures within { result < 16 }

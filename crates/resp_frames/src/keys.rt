@@ -13,11 +13,11 @@ use resp_value::laws::no_spelling_begins_another;
 use resp_value::limits::Limits;
 
 impl Frames {
-    /// Returns the words of a command that are keys, by its row in the table of commands. They are
-    /// borrowed from the bytes of the command, and nothing is allocated.
+    /// Returns the words of a command that are keys, according to its row in the table of commands.
+    /// They are borrowed from the bytes of the command, and nothing is allocated.
     ///
-    /// Returns `None` if the table has no such command or subcommand, or if the number of its keys is
-    /// no decimal number or greater than the number of words after it.
+    /// Returns `None` if the table has no such command or subcommand, or if the number of its keys
+    /// is not a decimal number or greater than the number of words after it.
     pub fn keys<'a>(&self, found: &'a CommandFrame<'_>) -> Option<KeyWords<'a>>
         // The words at exactly the places that the row names.
         ensures keys { (name : List ℕ) (arguments : List (List ℕ)) →
@@ -35,7 +35,7 @@ impl Frames {
     }
 }
 
-/// Returns the command that the bytes are.
+/// Returns the command that the bytes contain.
 fn command_in<'a>(text: &'a [u8], limits: &Limits) -> Option<WholeCommand<'a>>
     ensures words { (name : List ℕ) (arguments : List (List ℕ)) →
         Spells limits.now text.now name arguments →

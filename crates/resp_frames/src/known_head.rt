@@ -16,10 +16,10 @@ use resp_value::laws::no_spelling_is_empty;
 use resp_value::limits::Limits;
 use std::marker::Model;
 
-/// The most bytes of a known head.
+/// The maximum number of bytes of a known head.
 pub(crate) const MOST: usize = 24;
 
-/// The most words after the name of a command whose head is known.
+/// The maximum number of words after the name of a command whose head is known.
 const ARGUMENTS: u64 = 15;
 
 /// The number of bytes that are compared at once.
@@ -94,8 +94,8 @@ impl KnownHead {
         })
     }
 
-    /// Returns the command at the beginning of the piece, if it begins with these bytes and lies whole
-    /// in the piece.
+    /// Returns the command at the beginning of the piece, if it begins with these bytes and the piece
+    /// contains all of it.
     #[inline(always)]
     pub(crate) fn command<'a>(&self, piece: &'a [u8], limits: &Limits) -> Option<CommandFrame<'a>>
         ensures command { IfSome result (λ found. IsFrameOfWords limits.now [] piece.now found) }
@@ -150,7 +150,7 @@ fn are_same(text: &[u8], other: &[u8], at: usize) -> bool
     word_at(text, at) == word_at(other, at)
 }
 
-/// Returns the number that eight bytes of a text are.
+/// Returns eight bytes of a text as a number.
 #[inline(always)]
 fn word_at(text: &[u8], at: usize) -> u64
     requires { at + 8 ≤ length text.now }
@@ -168,7 +168,8 @@ fn word_at(text: &[u8], at: usize) -> u64
     ])
 }
 
-/// Returns the bytes after this many bulk strings, if they lie whole at the beginning of a text.
+/// Returns the bytes after this many bulk strings, if the text begins with this many complete bulk
+/// strings.
 #[inline(always)]
 fn after_words<'a>(text: &'a [u8], count: u64, limits: &Limits) -> Option<&'a [u8]>
     ensures begins { IfSome result (λ rest. (words : List (List ℕ)) × (length words ≡ count) ×

@@ -1,8 +1,8 @@
-//! Whole values among bytes that come in pieces of any size, without building them.
+//! Finds whole values in bytes that arrive in pieces of any size, without building the values.
 //!
-//! [`Frames::next`] finds the end of the next value of a connection and lends its bytes. A value that
-//! lies whole in a piece is not copied. Only a connection that has begun a value holds memory.
-//! [`Unfinished`] holds the bytes of a client that sends lines too.
+//! [`Frames::next`] finds the end of the next value of a connection and lends its bytes. A value
+//! that is complete in its piece is not copied. Only a connection with an incomplete value holds
+//! memory. [`Unfinished`] holds the bytes of a client that sends lines too.
 #![tactic(auto)]
 
 mod begun;

@@ -1,4 +1,4 @@
-//! The request that a client has begun.
+//! The incomplete request of a client.
 
 ghost use Rattle.std.specs.Prelude.{◌≡◌, ℕ, Bool, List, [], false, true, IsTrue};
 ghost use Rattle.resp_frames.specs.Unfinished.{HasArray, HasBegunRequest, HasBytes};
@@ -9,13 +9,13 @@ use crate::begun::Begun;
 use resp_line::begins_line;
 use std::alloc::Global;
 
-/// The bytes of the request that a client has begun, which is an array or a line. Between two
+/// The bytes of the incomplete request of a client, which is an array or a line. Between two
 /// requests it holds no memory.
 #[derive(Drop)]
 pub struct Unfinished {
-    /// The array that has begun.
+    /// The incomplete array.
     pub begun: Begun,
-    /// The bytes of the line that has begun.
+    /// The bytes of the incomplete line.
     pub line: Vec<u8>,
 }
 

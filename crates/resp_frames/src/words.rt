@@ -37,7 +37,7 @@ pub struct CommandFrame<'a> {
 pub enum Request<'a> {
     /// A command.
     Command(CommandFrame<'a>),
-    /// An array of no words, `*0\r\n`, or null, `*-1\r\n`. It is no command, and it has no reply. This
+    /// An empty array, `*0\r\n`, or null, `*-1\r\n`. It is not a command and has no reply. This
     /// number of bytes of the piece belong to it.
     Empty(usize),
 }
@@ -56,7 +56,7 @@ impl<'a> Request<'a> {
 
 /// Returns the number and the class of these words, and the place of the command.
 #[inline(always)]
-fn words_by(name: &[u8], arguments: whole::Words<'_>) -> CommandWords
+fn words_by(name: &[u8], arguments: whole::CommandArguments<'_>) -> CommandWords
     ensures { HasWords name.now arguments.entry result }
 {
     let count = arguments.len();
@@ -68,7 +68,8 @@ fn words_by(name: &[u8], arguments: whole::Words<'_>) -> CommandWords
     }
 }
 
-/// Returns the command at the beginning of the piece, if it lies whole in it.
+/// Returns the command at the beginning of the piece, or `None` if the piece does not contain the whole
+/// command.
 #[inline(always)]
 pub fn command_of_piece<'a>(piece: &'a [u8], limits: &Limits) -> Option<CommandFrame<'a>>
     ensures command { IfSome result (λ found. IsFrameOfWords limits.now [] piece.now found) }
@@ -84,14 +85,15 @@ pub fn command_of_piece<'a>(piece: &'a [u8], limits: &Limits) -> Option<CommandF
     })
 }
 
-/// Returns whether the bytes are an array of no words or null.
+/// Returns whether the bytes are an empty array or null.
 pub(crate) fn is_empty_array(text: &[u8]) -> bool
     ensures { IsTrue result ↔ IsEmptyArray text.now }
 {
     text == b"*0\r\n".as_slice() || text == b"*-1\r\n".as_slice()
 }
 
-/// Returns the number and the class of the words of a command, or `None` if the bytes are no command.
+/// Returns the number and the class of the words of a command, or `None` if the bytes are not a
+/// command.
 pub(crate) fn words_of(text: &[u8], limits: &Limits) -> Option<CommandWords>
     ensures command { IfSome result (λ words. TellsWords limits.now text.now words) }
     ensures other { IfNone result (IsCommand limits.now text.now → ⊥) }

@@ -22,13 +22,13 @@ pub fn follow_least()
 {}
 
 /// A front is viable under every rule if and only if the front and its least completion together
-/// are within the limit of total.
+/// are within the limit `total`.
 pub fn viable_in_all()
     ensures { ViableWhereLeastFits }
 {}
 
 /// If `first_byte_refusal` names a rule for a first byte, this rule is the cause of the error. If
-/// it names no rule, the byte is viable under every rule except the limit of total.
+/// it names no rule, the byte is viable under every rule except the limit `total`.
 pub fn first_byte()
     ensures { AFirstByteHasItsCause }
 {}

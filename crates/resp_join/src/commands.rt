@@ -19,9 +19,8 @@ use resp_mux::{ClientId, Mux};
 ///
 /// # Errors
 ///
-/// A [`CommandError`] if a byte was rejected, the value is no command, the command could not be
-/// queued, or memory ran out.
-/// Nothing is queued.
+/// A [`CommandError`] if a byte was rejected, the value is not a command, the command could not be
+/// queued, or memory ran out. Nothing is queued.
 pub fn take_command(
     frames: &mut Frames,
     begun: &mut Begun,

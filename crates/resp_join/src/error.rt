@@ -14,16 +14,17 @@ pub enum ReplyError {
     /// The value is a push, which no command waits for.
     #[error("a push came over a shared connection")]
     Push,
-    /// No command waits of which a byte was sent, or memory ran out.
+    /// No command of which a byte was sent is waiting, or memory ran out.
     #[error(transparent)]
     Answer(AnswerError),
 }
 
-/// The error of [`take_command`](crate::take_command). The value that the client had begun is lost,
+/// The error of [`take_command`](crate::take_command). The incomplete value of the client is lost,
 /// so close the client.
 #[derive(Clone, Copy, Debug, PartialEq, Eq, Error)]
 pub enum CommandError {
-    /// No value within the limits could contain a byte, the value is no command, or memory ran out.
+    /// No value within the limits could contain a byte, the value is not a command, or memory ran
+    /// out.
     #[error(transparent)]
     Frame(FrameError),
     /// The command could not be queued.

@@ -18,7 +18,7 @@ use resp_mux::{ClientId, Mux};
 pub struct Replied {
     /// The number of bytes of the piece that belong to the reply.
     pub used: usize,
-    /// The client of the command. It may be closed, and then nobody got the reply.
+    /// The client of the command. If it is closed, no client got the reply.
     pub client: ClientId,
 }
 
@@ -28,8 +28,8 @@ pub struct Replied {
 ///
 /// # Errors
 ///
-/// A [`ReplyError`] if a byte was rejected, the value is a push, no command waits of which a byte was
-/// sent, or memory ran out. Nobody gets the value.
+/// A [`ReplyError`] if a byte was rejected, the value is a push, no command of which a byte was
+/// sent is waiting, or memory ran out. No client gets the value.
 pub fn take_reply(
     frames: &mut Frames,
     begun: &mut Begun,

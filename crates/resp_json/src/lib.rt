@@ -1,4 +1,4 @@
-//! Values as JSON: one text for each value, from which the value can be told.
+//! Values as JSON: one text for each value, which identifies the value.
 //!
 //! [`value::write_json`] writes the JSON text of a value, and [`value::write_json_line`] its line, as
 //! `resp show --json` prints it. `docs/json.md` describes the mapping.

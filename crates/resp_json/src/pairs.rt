@@ -10,7 +10,7 @@ ghost use Rattle.resp_json.specs.Pairs.{after_value, before_key, before_value, i
 use crate::text::is_utf8;
 use resp_value::value::Value;
 
-/// The most pairs of an object.
+/// The maximum number of pairs of an object.
 ///
 /// Each key is compared with each key before it. So no map takes more time than this number of
 /// comparisons for each of its keys, and no memory is allocated.
@@ -38,7 +38,7 @@ fn are_names(pairs: &[(Value, Value)]) -> bool
     true
 }
 
-/// Returns whether a key is a bulk string that is UTF-8, and is no key of these pairs.
+/// Returns whether a key is a bulk string that is UTF-8, and is not a key of these pairs.
 fn is_new_name(key: &Value, pairs: &[(Value, Value)]) -> bool
     ensures { result ≡ (is_name (datum_of key.now) &&
         not (list_any (λ pair. is_bulk (name_text (datum_of key.now)) (datum_of pair.0)) pairs.now)) }

@@ -9,8 +9,8 @@ ghost use Rattle.resp_print.specs.Shown.{hex_digit};
 ghost use Rattle.resp_print.specs.Written.{WritesText};
 
 use base64::engine::general_purpose::STANDARD;
+use resp_io::device::{DeviceFault, Sink};
 use resp_print::text::write_text;
-use resp_value::device::{DeviceFault, Sink};
 use std::str;
 
 /// The number of bytes that are encoded in base64 together. It is a multiple of 3, so only the last

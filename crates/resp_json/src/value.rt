@@ -11,8 +11,8 @@ ghost use Rattle.resp_print.specs.Written.{WritesText};
 
 use crate::pairs::{after_value, before_key, before_value, close_bracket, is_object, open_bracket};
 use crate::text::write_json_text;
+use resp_io::device::{DeviceFault, Sink};
 use resp_print::text::{write_number, write_text};
-use resp_value::device::{DeviceFault, Sink};
 use resp_value::digits::Digits;
 use resp_value::value::{Members, Value};
 

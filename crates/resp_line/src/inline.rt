@@ -11,10 +11,10 @@ use resp_value::limits::Limits;
 use std::alloc::{AllocError, Global};
 use std::mem;
 
-/// The most bytes of a line before its LF.
+/// The maximum number of bytes of a line before its LF.
 const LONGEST: usize = 65_536;
 
-/// Why a line is no command.
+/// Why a line is not a command.
 #[derive(Clone, Copy, Debug, PartialEq, Eq)]
 pub enum InlineError {
     /// The line has more than 65,536 bytes before its LF.
@@ -54,7 +54,7 @@ pub fn begins_line(piece: &[u8]) -> bool
 ///
 /// # Errors
 ///
-/// The reason why the line is no command, or `OutOfMemory`.
+/// The reason why the line is not a command, or `OutOfMemory`.
 pub fn next_inline(
     alloc: Global,
     limits: &Limits,

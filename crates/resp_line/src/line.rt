@@ -14,7 +14,7 @@ pub enum LineError {
     /// The quote at this byte of the line, counted from 0, is not closed.
     #[error("the quote at byte {at} is not closed")]
     Open { at: usize },
-    /// A closing quote stands before this byte of the line, counted from 0, which is no space.
+    /// A closing quote is before this byte of the line, counted from 0, which is not a space.
     #[error("no space after the closing quote, at byte {at}")]
     NoSpace { at: usize },
     /// An allocation failed.
@@ -29,7 +29,7 @@ fn is_space(byte: u8) -> bool
     byte == b' ' || byte == b'\t' || byte == b'\r'
 }
 
-/// Returns whether a byte stands for itself outside quotes: it is no space and no quote.
+/// Returns whether a byte stands for itself outside quotes: it is neither a space nor a quote.
 fn is_bare(byte: u8) -> bool
     ensures { result ≡ is_bare byte }
 {
@@ -232,12 +232,12 @@ enum WordEnd<'a> {
     Ended(&'a [u8]),
     /// A quote is not closed. Before it are this many bytes.
     Open(usize),
-    /// A byte that is no space follows a closing quote. These bytes follow the quote.
+    /// A byte that is not a space follows a closing quote. These bytes follow the quote.
     NoSpace(&'a [u8]),
 }
 
-/// Reads the word at the beginning of a text into `word`, which is empty. The text begins with a byte
-/// that is no space.
+/// Reads the word at the beginning of a text into `word`, which is empty. The text begins with a
+/// byte that is not a space.
 fn read_word<'a>(text: &'a [u8], word: &mut Vec<u8>) -> Result<WordEnd<'a>, AllocError>
     requires empty { word.old.items ≡ [] }
     requires begins { StartsWord text.now }

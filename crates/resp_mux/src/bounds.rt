@@ -5,10 +5,10 @@ ghost use Rattle.std.specs.Prelude.{◌≡◌};
 /// Bounds on the commands and bytes that wait in a multiplexer.
 #[derive(Clone, Copy, Debug, PartialEq, Eq)]
 pub struct Bounds {
-    /// The most commands of one client that wait for replies. 0 lets no command pass.
+    /// The maximum number of commands of one client that wait for replies. 0 lets no command pass.
     pub waiting: u32,
-    /// The most bytes of commands that wait to be sent. A longer command is queued only if no other
-    /// bytes wait.
+    /// The maximum number of bytes of commands that wait to be sent. A longer command is queued
+    /// only if no other bytes wait.
     pub unsent: usize,
 }
 

@@ -34,7 +34,7 @@ pub(crate) fn add_waiting(client: &mut Client)
     client.later.push();
 }
 
-/// Adds an answer of the proxy's own. It waits if a command of the client does.
+/// Adds a reply of the proxy itself. It waits if a command of the client does.
 pub(crate) fn add_own(client: &mut Client, text: &[u8]) -> Result<(), AllocError>
     ensures added { OnOk result (client.new ≡ with_own_answer text.now client.old) }
     ensures unchanged { OnErr result (client.new ≡ client.old) }

@@ -56,7 +56,7 @@ pub(crate) fn wait(clients: &mut Slab<Client>, who: ClientId)
     add_waiting(asking);
 }
 
-/// Adds an answer of the proxy's own for a client, if it is open.
+/// Adds a reply of the proxy itself for a client, if it is open.
 pub(crate) fn give_own(
     clients: &mut Slab<Client>,
     who: ClientId,

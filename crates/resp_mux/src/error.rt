@@ -31,7 +31,7 @@ pub enum ForwardError {
     OutOfMemory,
 }
 
-/// The error of [`Mux::own`](crate::Mux::own): the client does not get the answer.
+/// The error of [`Mux::own`](crate::Mux::own): the client does not get the reply.
 #[derive(Clone, Copy, Debug, PartialEq, Eq, Error)]
 pub enum OwnError {
     /// No client with this id is open.
@@ -42,10 +42,10 @@ pub enum OwnError {
     OutOfMemory,
 }
 
-/// The error of [`Mux::answer`](crate::Mux::answer): nobody gets the reply.
+/// The error of [`Mux::answer`](crate::Mux::answer): no client gets the reply.
 #[derive(Clone, Copy, Debug, PartialEq, Eq, Error)]
 pub enum AnswerError {
-    /// No command waits for a reply of which a byte was sent.
+    /// No command of which a byte was sent waits for a reply.
     #[error("no command waits for this reply")]
     Unasked,
     /// An allocation failed.

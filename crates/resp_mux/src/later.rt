@@ -7,7 +7,7 @@ use std::alloc::{AllocError, Global};
 use std::collections::VecDeque;
 use std::marker::Model;
 
-/// An answer of the proxy's own that waits for the replies to the client's commands before it.
+/// A reply of the proxy itself that waits for the replies to the client's commands before it.
 #[derive(Drop)]
 pub(crate) struct Held {
     /// The number of commands that wait before the command that this text follows.
@@ -15,8 +15,8 @@ pub(crate) struct Held {
     pub(crate) text: Vec<u8>,
 }
 
-/// The commands of one client that wait for replies. Each is followed by the answers of the proxy's
-/// own to the commands after it.
+/// The commands of one client that wait for replies. Each is followed by the replies of the proxy
+/// itself to the commands after it.
 #[derive(Drop)]
 pub(crate) struct Later {
     count: u32,

@@ -1,4 +1,4 @@
-//! Laws of the answers to clients and of the commands for servers.
+//! Laws of the replies to clients and of the commands for servers.
 
 ghost use Rattle.resp_mux.specs.Laws.{AClientAloneGetsAll, AReplyIsItsOwnersAlone, EachReplyIsGiven, LinesKeepEachClientsOrder, OneLineIsAConnection, OneLineIsAZip, OthersAnswersChangeNothing, TheServerIsAskedWholeCommands};
 
@@ -7,7 +7,7 @@ pub fn a_reply_is_its_owners_alone()
     ensures { AReplyIsItsOwnersAlone }
 {}
 
-/// A client gets the reply to its command after the replies to its commands before.
+/// A client gets the reply to its command after the replies to its earlier commands.
 pub fn each_reply_is_given()
     ensures { EachReplyIsGiven }
 {}
@@ -28,7 +28,7 @@ pub fn one_line_is_a_connection()
     ensures { OneLineIsAConnection }
 {}
 
-/// Over one line, if each reply is awaited, the nth reply answers the nth command.
+/// Over one line, if each reply is awaited, the nth reply belongs to the nth command.
 pub fn one_line_is_a_zip()
     ensures { OneLineIsAZip }
 {}

@@ -21,17 +21,17 @@ const MOST_CLIENTS: u64 = 9_223_372_036_854_775_807;
 
 /// Many clients over one connection to a server.
 ///
-/// A client gets the answers to its own commands in order, up to the first that is missing, and
-/// nothing else. The server is sent whole commands, those of each client in their order. An answer
-/// is the text of a reply of the server, the text of [`Mux::own`] or the text of [`Mux::lose`].
+/// A client gets only the replies to its own commands, in order, up to the first missing reply. The
+/// server gets whole commands, and those of each client in their order. A reply is the text of a
+/// reply of the server, the text of [`Mux::own`] or the text of [`Mux::lose`].
 ///
 /// This holds if the server replies to the commands of a connection one by one, in order, and each
 /// reply is one call of [`Mux::answer`].
 ///
 /// Each call takes constant time, except that it copies the bytes that it is given, that
-/// [`Mux::lose`] visits each command that it answers, and that [`Mux::sent`] visits each command that
-/// the bytes begin. A client for which nothing waits takes 96 bytes, a command that waits 16, and 8
-/// more until a byte of it was sent, each in a list that doubles when it is full.
+/// [`Mux::lose`] visits each command that it replies to, and that [`Mux::sent`] visits each command
+/// that the bytes begin. A client for which nothing waits takes 96 bytes, a command that waits 16,
+/// and 8 more until a byte of it was sent, each in a list that doubles when it is full.
 #[derive(Drop)]
 pub struct Mux {
     alloc: Global,
@@ -120,7 +120,7 @@ impl Mux {
         Ok(who)
     }
 
-    /// Queues a whole command of a client for the server, behind those that were queued before.
+    /// Queues a whole command of a client for the server, after those that were queued before.
     ///
     /// # Errors
     ///
@@ -176,8 +176,8 @@ impl Mux {
         Ok(())
     }
 
-    /// Gives a client an answer of the proxy's own, in the place of the command that it answers: it
-    /// waits until all commands of the client before it are answered.
+    /// Gives a client a reply of the proxy itself to a command. The reply waits until all earlier
+    /// commands of the client have their replies.
     ///
     /// # Errors
     ///
@@ -200,13 +200,14 @@ impl Mux {
     }
 
     /// Gives a reply of the server to the client of the first command that waits, and returns that
-    /// client. If the client is closed, nobody gets the reply. A server can only reply to a command of
-    /// which a byte was sent.
+    /// client. If the client is closed, no client gets the reply. A server can only reply to a
+    /// command of which a byte was sent.
     ///
     /// # Errors
     ///
-    /// `Unasked` if no command waits of which a byte was sent, and otherwise `OutOfMemory` if an
-    /// allocation fails. Nothing changes. After `OutOfMemory` close the client that [`Mux::next_client`] returns, and try again.
+    /// `Unasked` if no command of which a byte was sent waits, and otherwise `OutOfMemory` if an
+    /// allocation fails. Nothing changes. After `OutOfMemory` close the client that
+    /// [`Mux::next_client`] returns, and try again.
     pub fn answer(&mut self, reply: &[u8]) -> Result<ClientId, AnswerError>
         ensures owner { IfOk result (λ who.
             waiting_clients self.old ≡ who ∷ waiting_clients self.new) }
@@ -228,14 +229,14 @@ impl Mux {
         Ok(owner)
     }
 
-    /// Answers each command that waits of which a byte was sent by this text, since the connection to
-    /// the server was lost. The others wait for a new connection: [`Mux::to_server`] returns these
-    /// commands, whole and in order.
+    /// Replies with this text to each waiting command of which a byte was sent, because the
+    /// connection to the server was lost. The others wait for a new connection: [`Mux::to_server`]
+    /// returns these commands, whole and in order.
     ///
     /// # Errors
     ///
-    /// `AllocError` if an allocation fails. The first of these commands may be answered, and the
-    /// others still wait, so close the client that [`Mux::next_client`] returns, and try again.
+    /// `AllocError` if an allocation fails. The first of these commands may have their replies, and
+    /// the others still wait, so close the client that [`Mux::next_client`] returns, and try again.
     pub fn lose(&mut self, text: &[u8]) -> Result<(), AllocError>
         ensures passed { OnOk result (WherePassed self.old (λ p.
             HasPassed self.new (with_loss (begun_count self.old) text.now p))) }
@@ -300,8 +301,8 @@ impl Mux {
     }
 
     /// Returns the bytes that wait to be given to a client, or `None` if it is not open. With the
-    /// bytes that it was given, they are the answers to its own commands in order, up to the first
-    /// that is missing.
+    /// bytes that it was given, they are the replies to its own commands in order, up to the first
+    /// missing reply.
     pub fn to_client(&self, who: ClientId) -> Option<&[u8]>
         ensures waiting { option_map (λ text. text.now) result ≡ waiting_for self.now who }
         ensures answered { WherePassed self.now (λ p. IfSome result (λ text.
@@ -326,8 +327,8 @@ impl Mux {
         clients::remove(self.alloc, &mut self.clients, who, count);
     }
 
-    /// Closes a client. Nobody gets the answers to its commands that are missing. Its commands still
-    /// go to the server. Nothing changes if the client is not open.
+    /// Closes a client. No client gets the missing replies. Its commands still go to the server.
+    /// Nothing changes if the client is not open.
     pub fn close(&mut self, who: ClientId)
         ensures passed { KeepsPassed self.old self.new }
         ensures closed { HasClosed self.old self.new who }

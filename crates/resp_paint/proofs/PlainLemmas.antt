@@ -1,6 +1,6 @@
 -- What painted texts show, one after another.
 use Rattle.std.proofs.Common.{◌≡◌, ◌≢◌, ◌∙◌, ℕ, ◌<◌, ◌==◌, false, true, cond, nat_lt, List, [], ◌∷◌, ◌++◌, Option, ap, sym, refl, subst, append_assoc, append-nil, arith}
-use Rattle.resp_value.specs.Devices.{Appends}
+use Rattle.resp_io.specs.Devices.{Appends}
 use Rattle.resp_print.proofs.WrittenLemmas.{Appends-append, Appends-none}
 use Rattle.resp_paint.specs.Plain.{Shows, beyond_sequence, plain_text, shown_byte}
 use Rattle.resp_paint.specs.Paints.{Paints}

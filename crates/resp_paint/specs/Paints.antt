@@ -1,6 +1,6 @@
 -- The text that is written for a text that is painted.
 use Rattle.std.specs.Prelude.{◌≡◌, ℕ, Bool, true, false, if◌then◌else◌, List, ◌++◌, Option}
-use Rattle.resp_value.specs.Devices.{Appends}
+use Rattle.resp_io.specs.Devices.{Appends}
 use Rattle.resp_paint.specs.Plain.{Shows}
 use Rattle.resp_paint.specs.declared.style.Style.{Style}
 

@@ -2,16 +2,16 @@
 
 ghost use Rattle.std.specs.Prelude.{◌≡◌, ◌≤◌, ◌∷◌, [], false, true, length, None, IfOk, OnOk};
 ghost use Rattle.resp_paint.specs.Paints.{Paints, is_plain_style};
-ghost use Rattle.resp_print.specs.Live.{flush_fails};
-ghost use Rattle.resp_value.specs.Devices.{Writes, count_after, failures_after, write_fails};
+ghost use Rattle.resp_io.specs.Live.{flush_fails};
+ghost use Rattle.resp_io.specs.Devices.{Writes, count_after, failures_after, write_fails};
 
 use crate::painter::{MOST_HELD, Paint, Painter};
 use crate::plain::shows;
 use crate::style::Style;
 use arrayvec::ArrayVec;
-use resp_print::live::LiveSink;
+use resp_io::device::{DeviceFault, Sink};
+use resp_io::live::LiveSink;
 use resp_print::text::write_text;
-use resp_value::device::{DeviceFault, Sink};
 
 /// A sink that prints the lines of `resp show`, `ask` and `tap` in a style, to another sink.
 ///

@@ -3,15 +3,16 @@
 ghost use Rattle.std.specs.Prelude.{◌≡◌, ◌<◌};
 
 use crate::color::Color;
-use crate::place::{Place, color_of_heading, may_be_heading};
+use crate::place::{LinePlace, color_of_heading, may_be_heading};
 use crate::printable::{is_printable, length_from};
 use crate::style::Style;
 use arrayvec::ArrayVec;
 
-/// The most bytes of text that wait for the end of a character: the escapes of four bytes.
+/// The maximum number of bytes of text that wait for the end of a character: the escapes of four
+/// bytes.
 pub(crate) const MOST_HELD: usize = 16;
 
-/// The most bytes that are printed for the bytes that wait.
+/// The maximum number of bytes that are printed for the bytes that wait.
 pub(crate) const MOST_PAINTED: usize = 64;
 
 /// The bytes of an escape: a backslash, `x`, and two digits.
@@ -30,7 +31,7 @@ pub(crate) enum Paint {
 #[derive(Clone, Copy)]
 pub(crate) struct Painter {
     style: Style,
-    place: Place,
+    place: LinePlace,
 }
 
 impl Painter {
@@ -38,7 +39,7 @@ impl Painter {
     pub(crate) fn new(style: Style) -> Self {
         Painter {
             style,
-            place: Place::Start,
+            place: LinePlace::Start,
         }
     }
 
@@ -76,7 +77,7 @@ impl Painter {
     /// Returns a heading in the color of its line.
     fn heading(&mut self, held: &[u8], color: Color) -> ArrayVec<u8, MOST_PAINTED> {
         let mut text = ArrayVec::new();
-        self.place = Place::Colored;
+        self.place = LinePlace::Colored;
         append(&mut text, color.sequence());
         for byte in held {
             let step = self.place.step(*byte);
@@ -122,7 +123,8 @@ fn may_be_character(held: &[u8]) -> bool {
             .all(|(index, escape)| may_be_escape(index, escape))
 }
 
-/// Returns whether the bytes begin or are the escape of the byte at this index of a character.
+/// Returns whether the bytes are the escape, or a beginning of the escape, of a byte that may be at this
+/// index of a character.
 fn may_be_escape(index: usize, escape: &[u8]) -> bool {
     let begins = match escape {
         [b'\\'] | [b'\\', b'x'] => true,

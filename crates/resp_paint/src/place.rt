@@ -27,18 +27,18 @@ const HEADINGS: [(&[u8], Color); 6] = [
     (b"false\n", Color::Magenta),
 ];
 
-/// The place behind the bytes of a line so far.
+/// The place after the bytes of a line so far.
 #[derive(Clone, Copy, Debug, PartialEq, Eq)]
-pub(crate) enum Place {
+pub(crate) enum LinePlace {
     /// At the beginning of a line, or in its indentation.
     Start,
     /// In the first word, of which this number has the last eight bytes.
     Word(u64),
-    /// Behind the first word. Texts in quotes have this color.
+    /// After the first word. Texts in quotes have this color.
     Beyond(Color),
     /// In quotes.
     Quoted(Color),
-    /// In quotes, behind a backslash.
+    /// In quotes, after a backslash.
     Escaped(Color),
     /// In a line that is colored up to its end.
     Colored,
@@ -46,23 +46,23 @@ pub(crate) enum Place {
 
 /// The effect of a byte.
 #[derive(Clone, Copy)]
-pub(crate) struct Step {
+pub(crate) struct ByteEffect {
     /// The color that is switched to before the byte.
     pub(crate) before: Color,
     /// The color that is switched to after the byte.
     pub(crate) after: Color,
-    /// The place behind the byte.
-    pub(crate) place: Place,
+    /// The place after the byte.
+    pub(crate) place: LinePlace,
 }
 
 /// Returns the step to a place, without a change of color.
-fn to(place: Place) -> Step {
+fn to(place: LinePlace) -> ByteEffect {
     colored(Color::Same, place)
 }
 
 /// Returns the step to a place, with a color from the byte on.
-fn colored(before: Color, place: Place) -> Step {
-    Step {
+fn colored(before: Color, place: LinePlace) -> ByteEffect {
+    ByteEffect {
         before,
         after: Color::Same,
         place,
@@ -85,31 +85,31 @@ pub(crate) fn color_of_heading(bytes: &[u8]) -> Option<Color> {
     None
 }
 
-impl Place {
+impl LinePlace {
     /// Returns whether the next byte is the first one of a line after its indentation.
     pub(crate) fn is_start(self) -> bool {
-        self == Place::Start
+        self == LinePlace::Start
     }
 
-    /// Returns whether the next byte is inside quotes, and not behind a backslash.
+    /// Returns whether the next byte is inside quotes, and not after a backslash.
     pub(crate) fn is_quoted(self) -> bool {
-        matches!(self, Place::Quoted(_))
+        matches!(self, LinePlace::Quoted(_))
     }
 
     /// Returns the effect of the next byte.
-    pub(crate) fn step(self, byte: u8) -> Step {
+    pub(crate) fn step(self, byte: u8) -> ByteEffect {
         match self {
-            Place::Start => begin(byte),
-            Place::Word(word) => in_word(word, byte),
-            Place::Beyond(color) => match byte {
-                b'\n' => to(Place::Start),
-                b'"' => colored(color, Place::Quoted(color)),
+            LinePlace::Start => begin(byte),
+            LinePlace::Word(word) => in_word(word, byte),
+            LinePlace::Beyond(color) => match byte {
+                b'\n' => to(LinePlace::Start),
+                b'"' => colored(color, LinePlace::Quoted(color)),
                 _ => to(self),
             },
-            Place::Quoted(color) => in_quotes(color, byte),
-            Place::Escaped(color) => to(Place::Quoted(color)),
-            Place::Colored => match byte {
-                b'\n' => colored(Color::Reset, Place::Start),
+            LinePlace::Quoted(color) => in_quotes(color, byte),
+            LinePlace::Escaped(color) => to(LinePlace::Quoted(color)),
+            LinePlace::Colored => match byte {
+                b'\n' => colored(Color::Reset, LinePlace::Start),
                 _ => to(self),
             },
         }
@@ -117,42 +117,42 @@ impl Place {
 }
 
 /// Returns the effect of a byte at the beginning of a line.
-fn begin(byte: u8) -> Step {
+fn begin(byte: u8) -> ByteEffect {
     match byte {
-        b' ' | b'\n' => to(Place::Start),
-        b'"' => colored(Color::Green, Place::Quoted(Color::Green)),
-        _ => to(Place::Word(u64::from(byte))),
+        b' ' | b'\n' => to(LinePlace::Start),
+        b'"' => colored(Color::Green, LinePlace::Quoted(Color::Green)),
+        _ => to(LinePlace::Word(u64::from(byte))),
     }
 }
 
 /// Returns the effect of a byte in the first word of a line.
-fn in_word(word: u64, byte: u8) -> Step {
+fn in_word(word: u64, byte: u8) -> ByteEffect {
     match byte {
-        b'\n' => to(Place::Start),
+        b'\n' => to(LinePlace::Start),
         b' ' => match word {
-            INT | BIG => Step {
+            INT | BIG => ByteEffect {
                 before: Color::Same,
                 after: Color::Magenta,
-                place: Place::Colored,
+                place: LinePlace::Colored,
             },
-            DOUBLE => to(Place::Beyond(Color::Magenta)),
-            ERROR | BULK_ERROR => to(Place::Beyond(Color::Red)),
-            _ => to(Place::Beyond(Color::Green)),
+            DOUBLE => to(LinePlace::Beyond(Color::Magenta)),
+            ERROR | BULK_ERROR => to(LinePlace::Beyond(Color::Red)),
+            _ => to(LinePlace::Beyond(Color::Green)),
         },
-        _ => to(Place::Word(word.wrapping_mul(256) | u64::from(byte))),
+        _ => to(LinePlace::Word(word.wrapping_mul(256) | u64::from(byte))),
     }
 }
 
 /// Returns the effect of a byte in quotes.
-fn in_quotes(color: Color, byte: u8) -> Step {
+fn in_quotes(color: Color, byte: u8) -> ByteEffect {
     match byte {
-        b'\\' => to(Place::Escaped(color)),
-        b'\n' => colored(Color::Reset, Place::Start),
-        b'"' => Step {
+        b'\\' => to(LinePlace::Escaped(color)),
+        b'\n' => colored(Color::Reset, LinePlace::Start),
+        b'"' => ByteEffect {
             before: Color::Same,
             after: Color::Reset,
-            place: Place::Beyond(color),
+            place: LinePlace::Beyond(color),
         },
-        _ => to(Place::Quoted(color)),
+        _ => to(LinePlace::Quoted(color)),
     }
 }

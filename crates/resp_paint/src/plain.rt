@@ -27,7 +27,7 @@ pub(crate) fn shows(painted: &[u8], plain: &[u8]) -> bool
     }
 }
 
-/// Returns the bytes behind a sequence of which the first byte was read.
+/// Returns the bytes after a sequence whose first byte was read.
 fn after_sequence(text: &[u8]) -> Option<&[u8]>
     ensures same_text { IfSome result (λ rest. (more : List ℕ) →
         beyond_sequence (text.now ++ more) ≡ plain_text (rest.now ++ more)) }
@@ -40,7 +40,7 @@ fn after_sequence(text: &[u8]) -> Option<&[u8]>
     after_sequence(beyond)
 }
 
-/// Returns the text behind the one that a byte stands for: the byte itself if it is ASCII, otherwise
+/// Returns the text after the one that a byte stands for: the byte itself if it is ASCII, otherwise
 /// its escape.
 fn after_byte(byte: u8, plain: &[u8]) -> Option<&[u8]>
     ensures { IfSome result (λ rest. plain.now ≡ shown_byte byte ++ rest.now) }
@@ -55,7 +55,7 @@ fn after_byte(byte: u8, plain: &[u8]) -> Option<&[u8]>
     )
 }
 
-/// Returns the text behind its first byte, if that is this byte.
+/// Returns the text after its first byte, if this is that byte.
 fn after_first(byte: u8, text: &[u8]) -> Option<&[u8]>
     ensures { IfSome result (λ rest. text.now ≡ byte ∷ rest.now) }
 {

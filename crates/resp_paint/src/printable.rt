@@ -14,8 +14,8 @@ pub(crate) fn is_printable(bytes: &[u8]) -> bool {
     }
 }
 
-/// Returns whether a character has a shape of its own: it is no control or format character, no
-/// separator, and it is assigned.
+/// Returns whether a character is visible: it is assigned, and is not a control character, a format
+/// character or a separator.
 fn has_shape(character: char) -> bool {
     !matches!(
         GeneralCategory::for_char(character),

@@ -6,8 +6,8 @@ use Rattle.std.proofs.lemmas.Bool.{ltb-true, ltb-false}
 use Rattle.std.proofs.lemmas.List.{append-nil, drop_more, length-drop, length-take, take-take}
 use Rattle.resp_value.specs.Data.{Kind, Scalar, Datum, Data, scalar, aggregate, none, more, data_of_list, count}
 use Rattle.resp_value.specs.Data as d
-use Rattle.resp_cut.specs.Cuts.{cut, cut_each, cut_lengths, cut_scalar, kept_part, lengths_of_each, longer, scalar_lengths}
-use Rattle.resp_cut.proofs.Cutting.{longer-none, longer-one}
+use Rattle.resp_value.specs.Cuts.{cut, cut_each, cut_lengths, cut_scalar, kept_part, lengths_of_each, longer, scalar_lengths}
+use Rattle.resp_value.proofs.Cutting.{longer-none, longer-one}
 use Rattle.resp_print.specs.Kept.{MembersFor, ScalarFor, TextFor, ValueFor}
 use Rattle.resp_print.specs.Shown.{is_cut, shown_part}
 

@@ -1,7 +1,7 @@
 -- Text that is printed part after part.
 use Rattle.std.proofs.Common.{◌≡◌, ℕ, ◌≤◌, List, [], ◌++◌, Option, Result, Ok, Err, refl, sym, ap, subst, ◌∙◌, append_assoc, append-nil, arith}
 use Rattle.std.specs.Result.{IsErr}
-use Rattle.resp_value.specs.Devices.{Appends, count_after}
+use Rattle.resp_io.specs.Devices.{Appends, count_after}
 use Rattle.resp_print.specs.Printed.{Prints}
 use Rattle.resp_print.specs.Written.{AppendsPart, WritesText}
 use Rattle.resp_print.specs.declared.print_error.PrintError.{PrintError}

@@ -1,7 +1,7 @@
 -- Quoted text, written part after part.
 use Rattle.std.proofs.Common.{◌≡◌, ℕ, List, ◌++◌, Option, Result, sym, ap, ◌∙◌, append_assoc}
 use Rattle.std.specs.Result.{IsErr}
-use Rattle.resp_value.specs.Devices.{Appends, count_after}
+use Rattle.resp_io.specs.Devices.{Appends, count_after}
 use Rattle.resp_print.specs.Shown.{quoted_text}
 use Rattle.resp_print.specs.Written.{AppendsPart, WritesText}
 use Rattle.resp_print.proofs.Quoted.{quoted-append, quoted-split}

@@ -1,7 +1,7 @@
 -- Values of which the first bytes of each text were kept, beside the lengths of the longer texts.
 use Rattle.std.specs.Prelude.{◌≡◌, ◌⊎◌, ℕ, Option, Some, List, [], ◌++◌, length}
 use Rattle.resp_value.specs.Data.{Scalar, Datum, Data}
-use Rattle.resp_cut.specs.Cuts.{cut, cut_each, cut_lengths, cut_scalar, kept_part, lengths_of_each, longer, scalar_lengths}
+use Rattle.resp_value.specs.Cuts.{cut, cut_each, cut_lengths, cut_scalar, kept_part, lengths_of_each, longer, scalar_lengths}
 
 -- What is kept stands for a whole: it is the whole, and there are no lengths; or it is the whole, cut by the number of
 -- bytes that are printed, and the lengths begin with those of the whole. Then these lengths remain.

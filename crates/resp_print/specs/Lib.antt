@@ -2,5 +2,4 @@ pub mod Shown
 pub mod Written
 pub mod Printed
 pub mod Kept
-pub mod Live
 pub mod Headings

@@ -1,7 +1,7 @@
 -- The lines of a value that are printed.
 use Rattle.std.specs.Prelude.{◌≡◌, Bool, true, false, ℕ, ◌≤◌, ◌^◌, List, ◌++◌, Option, Result, Ok, Err, codes, decimal}
 use Rattle.resp_value.specs.Data.{Datum, scalar, aggregate}
-use Rattle.resp_value.specs.Devices.{Appends, count_after}
+use Rattle.resp_io.specs.Devices.{Appends, count_after}
 use Rattle.resp_print.specs.Shown.{indentation}
 use Rattle.resp_print.specs.Written.{AppendsPart}
 use Rattle.resp_print.specs.declared.print_error.PrintError.{PrintError}

@@ -1,6 +1,6 @@
 -- The part of a text that was written.
 use Rattle.std.specs.Prelude.{◌≡◌, ℕ, List, ◌++◌, Option, Result, Ok, Err}
-use Rattle.resp_value.specs.Devices.{Appends, count_after}
+use Rattle.resp_io.specs.Devices.{Appends, count_after}
 
 -- the first part of the text was appended
 pub record AppendsPart (before after : Option (List ℕ)) (text : List ℕ) : Type 0 where

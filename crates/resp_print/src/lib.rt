@@ -3,7 +3,6 @@
 //! [`value::write_value`] writes the lines of a value. [`text`] writes the parts of lines.
 #![tactic(auto)]
 
-pub mod live;
 pub mod print_error;
 mod quote;
 pub mod text;

@@ -3,7 +3,7 @@
 ghost use Rattle.std.specs.Prelude.{◌≡◌, ◌+◌, ◌++◌, ◌<◌, ◌≤◌, length, take};
 ghost use Rattle.resp_print.specs.Shown.{hex_digit, is_plain, quoted_byte, quoted_text};
 
-/// The most bytes of a block.
+/// The maximum number of bytes of a block.
 pub(crate) const BLOCK: usize = 64;
 
 /// Returns whether a byte is printed unchanged inside quotes: printable ASCII except `"` and `\`.

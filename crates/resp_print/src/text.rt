@@ -6,7 +6,7 @@ ghost use Rattle.resp_print.specs.Written.{WritesText};
 
 use crate::quote::{BLOCK, is_plain, quote_block};
 use itoa::{Buffer, Integer};
-use resp_value::device::{DeviceFault, Sink, write_all};
+use resp_io::device::{DeviceFault, Sink, write_all};
 
 /// The number of bytes that are tested together.
 const RUN: usize = 64;

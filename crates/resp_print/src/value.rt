@@ -1,7 +1,7 @@
 //! The lines of a value, as `resp show` prints them.
 
 ghost use Rattle.std.specs.Prelude.{◌≡◌, ◌+◌, ◌++◌, ℕ, IsOk, List, OnOk, Option, Some, suc, drop, length, map, codes, decimal};
-ghost use Rattle.resp_cut.specs.Cuts.{cut, cut_lengths};
+ghost use Rattle.resp_value.specs.Cuts.{cut, cut_lengths};
 ghost use Rattle.resp_value.specs.Data.{Data, Datum, data_of_list, depth, greatest_depth, in_turn};
 ghost use Rattle.resp_value.specs.Data as d;
 ghost use Rattle.resp_value.specs.Values.{datum_of, digits_text, is_negative, pair_data};
@@ -13,15 +13,15 @@ ghost use Rattle.resp_print.specs.Written.{WritesText};
 
 use crate::print_error::PrintError;
 use crate::text::{is_cut, shown_part, write_indentation, write_number, write_quoted, write_text};
-use resp_value::device::{DeviceFault, Sink};
+use resp_io::device::{DeviceFault, Sink};
 use resp_value::digits::Digits;
 use resp_value::value::{Members, Value};
 
 /// Writes the lines of a value, indented by two spaces for each level.
 ///
-/// The lines are those of `resp show`, which prints a value on level 0. With `most`, at most this many
-/// bytes of each text are printed, and `..` stands before the number of bytes of a text that has more.
-/// The call allocates nothing.
+/// The lines are those of `resp show`, which prints a value on level 0. With `most`, at most this
+/// many bytes of each text are printed, and `..` precedes the number of bytes of a text that has
+/// more. The call allocates nothing.
 ///
 /// # Errors
 ///
@@ -63,10 +63,10 @@ pub fn write_value<W: Sink>(
     write_lines(value, level, most, &[], &mut 0, writer)
 }
 
-/// Writes the lines of a value of which `shown + 1` bytes of each text were kept. They are the lines
-/// that [`write_value`] writes of the whole value with at most `shown` bytes of each text. `lengths`
-/// are the numbers of bytes of the texts that have more than `shown` bytes, in order. A `CutDecoder`
-/// of `resp_decode` returns both.
+/// Writes the lines of a value. `shown + 1` bytes of each of its texts were kept. They are the
+/// lines that [`write_value`] writes for the whole value with at most `shown` bytes of each text.
+/// `lengths` are the numbers of bytes of the texts that have more than `shown` bytes, in order. A
+/// `CutDecoder` of `resp_decode` returns both.
 ///
 /// # Errors
 ///
@@ -174,8 +174,8 @@ pub fn write_push_value<W: Sink>(
     write_group(b"push\n", members.list(), level, most, &[], &mut 0, writer)
 }
 
-/// Writes the lines of a push of which `shown + 1` bytes of each text were kept, as
-/// [`write_cut_value`] writes those of a value.
+/// Writes the lines of a push, `shown + 1` bytes of whose texts were kept, as [`write_cut_value`]
+/// writes those of a value.
 ///
 /// # Errors
 ///
@@ -539,7 +539,7 @@ fn write_string<W: Sink>(
 }
 
 /// Writes the quote after a text, the number of the text's bytes, and LF. If not all of them were
-/// printed, `..` stands before the number.
+/// printed, `..` precedes the number.
 fn write_count<W: Sink>(count: u64, most: Option<usize>, writer: &mut W) -> Result<(), DeviceFault>
     ensures { WritesText (W.written writer.old) (W.written writer.new) (W.failures writer.old)
         (W.failures writer.new) result

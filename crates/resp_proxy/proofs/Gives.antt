@@ -10,7 +10,7 @@ use Rattle.resp_mux.specs.Multiplexing.{HasPassed, IsServed, Multiplexed, WhereP
 use Rattle.resp_mux.specs.Passing.{Passed, due_to, is_same, with_given, with_sent}
 use Rattle.resp_mux.specs.Seats.{client_in}
 use Rattle.resp_proxy.specs.Visiting.{GivesSome, IsOwed, SendsSome}
-use Rattle.resp_value.specs.Devices.{Appends}
+use Rattle.resp_io.specs.Devices.{Appends}
 
 same-given : (b : Bool) (text : List ℕ) → cond b (text ++ []) text ≡ text
 same-given true text = append-nil text

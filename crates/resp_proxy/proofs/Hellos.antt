@@ -5,7 +5,7 @@ use Rattle.std.proofs.lemmas.List.{append-nil}
 use Rattle.std.specs.Fmt as fmt
 use Rattle.memchr.specs.Find.{Nowhere, OccursAt}
 use Rattle.memchr.proofs.lemmas.MatchLemmas.{OccursAt-from_part, OccursAt-part}
-use Rattle.resp_encode.proofs.Decimals.{decimal-std}
+use Rattle.resp_value.proofs.StdDigits.{decimal-std}
 use Rattle.resp_proxy.specs.Hellos.{HasId, HasNumber, IsIdAround, id_key, own_reply}
 use Rattle.resp_value.specs.Canonical.{canonical_text}
 use Rattle.resp_value.specs.Numbers.{decimal}

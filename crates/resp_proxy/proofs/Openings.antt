@@ -1,7 +1,7 @@
 -- The commands that a connection to the server begins with.
 use Rattle.std.proofs.Common.{◌≡◌, ℕ, List, ◌++◌, codes, length, ◌<◌, ◌^◌, ap, sym, refl, ◌∙◌, append_assoc, append-nil, [], ◌∷◌, false}
 use Rattle.std.specs.Fmt as fmt
-use Rattle.resp_encode.proofs.Decimals.{decimal-std}
+use Rattle.resp_value.proofs.StdDigits.{decimal-std}
 use Rattle.std.specs.Str.{bytes_eq}
 use Rattle.resp_proxy.specs.Openings.{auth_by, select_text}
 use Rattle.std.specs.Prelude.{Option, None, Some}

@@ -19,8 +19,8 @@ use Rattle.resp_proxy.specs.Terms.{Terms}
 use Rattle.resp_proxy.specs.Replying.{TakesReplies}
 use Rattle.resp_proxy.specs.Visiting.{HaveCome, ReadsClient, ReadsServer, SendsSome, TellsRead}
 use Rattle.resp_proxy.proofs.Gives.{appends-none}
-use Rattle.resp_value.specs.declared.device.DeviceFault.{DeviceFault}
-use Rattle.resp_value.specs.Devices.{Reads}
+use Rattle.resp_io.specs.declared.device.DeviceFault.{DeviceFault}
+use Rattle.resp_io.specs.Devices.{Reads}
 use Rattle.resp_value.specs.Rules.{Rules}
 
 -- the first bytes were read

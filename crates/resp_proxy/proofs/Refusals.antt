@@ -1,10 +1,12 @@
 -- Why commands of a client are not carried out.
 use Rattle.std.proofs.Common.{◌≡◌, ◌∙◌, inl, inr, ℕ, true, List, [], ◌++◌, codes, take, drop, Result, Ok, Err, ap, append_assoc, refl, subst, sym}
 use Rattle.std.proofs.lemmas.List.{append-nil, take-append-drop}
-use Rattle.std.specs.Prelude.{IfErr, OnErr}
+use Rattle.std.specs.Borrow.{Bor}
+use Rattle.std.specs.Prelude.{◌∷◌, IfErr, IfSome, None, OnErr, Option, Some}
 use Rattle.resp_frames.proofs.WholeTexts.{no_request_in_text, rejects_in_text}
 use Rattle.resp_frames.specs.Commands.{IsFrameOfWords}
 use Rattle.resp_frames.specs.Framing.{OnFault, RejectsByte}
+use Rattle.resp_frames.specs.Keys.{IsFirst}
 use Rattle.resp_frames.specs.Requests.{EndsNoRequest}
 use Rattle.resp_frames.specs.Texts.{text_of, used_of}
 use Rattle.resp_frames.specs.declared.error.FrameError.{FrameError}
@@ -14,11 +16,27 @@ use Rattle.resp_line.specs.Inline.{IsArrayOf, IsLineWith}
 use Rattle.resp_proxy.proofs.Carryings.{line-request}
 use Rattle.resp_proxy.specs.declared.error.ClientError.{ClientError}
 use Rattle.resp_proxy.specs.declared.error.ClientError.TheVariants as error
-use Rattle.resp_proxy.specs.Leaving.{NeedsOwn}
-use Rattle.resp_proxy.specs.Reasons.{BeginsForOwn, BeginsNamed, RefusesArray}
-use Rattle.resp_proxy.specs.Refusing.{BeginsCommand, BeginsCommandForOwn, Refuses}
+use Rattle.resp_proxy.specs.declared.error.CommandName.{CommandName}
+use Rattle.resp_proxy.specs.Leaving.{MayNeedOwn, NeedsOwn}
+use Rattle.resp_proxy.specs.Reasons.{BeginsForOwn, BeginsNamed, BeginsNamedForOwn, RefusesArray}
+use Rattle.resp_proxy.specs.Refusing.{BeginsCommand, BeginsCommandForOwn, NamesCommand, Refuses}
 use Rattle.resp_proxy.specs.Terms.{Terms}
+use Rattle.resp_scan.specs.Whole.{BeginsWith}
+use Rattle.resp_value.specs.Bounds.{Bounds}
 use Rattle.resp_value.specs.Laws.{NoSpellingBeginsAnother}
+use Rattle.resp_value.specs.Words.{command_of}
+
+-- the error names the command with which the text begins
+pub named-for-own : (limits : Bounds) (text name rest : List ℕ) (arguments : List (List ℕ)) (first : Option (Bor (List ℕ))) (found : Option CommandName) →
+    BeginsWith limits text (command_of (name ∷ arguments)) rest → MayNeedOwn name arguments → IsFirst arguments first →
+    IfSome found (NamesCommand name first) → IfSome found (BeginsNamedForOwn limits text)
+named-for-own limits text name rest arguments first None begins kind is_first names = tt
+named-for-own limits text name rest arguments first (Some shown) begins kind is_first names = record {
+  command = record { name = name; arguments = arguments; rest = rest; begins = begins; kind = kind };
+  first = first;
+  is_first = is_first;
+  names = names;
+}
 
 -- memory ran out
 pub memory-refused : (terms : Terms) (text : List ℕ) (e : ClientError) → e ≡ error.OutOfMemory → Refuses terms text e
@@ -31,11 +49,11 @@ memory-refused-in (Err e) terms text is = memory-refused terms text e is
 
 refuses : (terms : Terms) (array text : List ℕ) (e : ClientError) →
     ((wanted : List ℕ) → BeginsNamed terms.rules.limits array wanted → BeginsCommand terms text wanted) →
-    (BeginsForOwn terms.rules.limits array → BeginsCommandForOwn terms text) → RefusesArray terms.rules.limits array e → Refuses terms text e
+    ((shown : CommandName) → BeginsNamedForOwn terms.rules.limits array shown → BeginsCommandForOwn terms text shown) → RefusesArray terms.rules.limits array e → Refuses terms text e
 refuses terms array text error.Quit named own r = named (codes "QUIT") r
 refuses terms array text error.Http named own (inl r) = inl (named (codes "POST") r)
 refuses terms array text error.Http named own (inr r) = inr (named (codes "HOST:") r)
-refuses terms array text (error.NoneLeft place) named own r = own r
+refuses terms array text (error.NoneLeft shown) named own r = own shown r
 refuses terms array text error.NoClient named own r = tt
 refuses terms array text error.OutOfMemory named own r = tt
 refuses terms array text error.Closing named own r = tt
@@ -58,8 +76,9 @@ named-more terms text wanted more b = record {
 }
 
 -- the bytes after a text that begins with a command that may need a connection of the client's own
-own-more : (terms : Terms) (text more : List ℕ) → BeginsForOwn terms.rules.limits text → BeginsCommandForOwn terms (text ++ more)
-own-more terms text more b = record {
+own-more : (terms : Terms) (text more : List ℕ) (shown : CommandName) → BeginsNamedForOwn terms.rules.limits text shown →
+    BeginsCommandForOwn terms (text ++ more) shown
+own-more terms text more shown n = let b = n.command in record {
   front = b.begins.written;
   rest = b.rest ++ more;
   whole = ap (λ t. t ++ more) b.begins.whole ∙ append_assoc b.begins.written b.rest more;
@@ -70,6 +89,9 @@ own-more terms text more b = record {
     request = record { spelled = b.begins.spelled; form = inl refl };
     kind = b.kind;
   };
+  first = n.first;
+  is_first = n.is_first;
+  names = n.names;
 }
 
 -- a command that is an array was not carried out
@@ -105,6 +127,7 @@ line-needs-own law terms content line array lines is a b = record {
 pub line-refused : NoSpellingBeginsAnother → (terms : Terms) (front piece content array : List ℕ) (count : ℕ) (e : ClientError) → terms.lines ≡ true →
     IsLineWith content (front ++ take count piece) → IsArrayOf terms.rules.limits content array → RefusesArray terms.rules.limits array e →
     Refuses terms (front ++ piece) e
+unfolding line-needs-own
 line-refused law terms front piece content array count e lines line a r = refuses terms array (front ++ piece) e
     (λ wanted b. record {
       front = front ++ take count piece;
@@ -116,11 +139,14 @@ line-refused law terms front piece content array count e lines line a r = refuse
       request = line-request law terms content (front ++ take count piece) array b.name b.arguments b.rest lines line a b.begins;
       named = b.named;
     })
-    (λ b. record {
+    (λ shown n. record {
       front = front ++ take count piece;
       rest = drop count piece;
       whole = ap (λ t. front ++ t) (sym (take-append-drop count piece)) ∙ sym (append_assoc front (take count piece) (drop count piece));
-      needs = line-needs-own law terms content (front ++ take count piece) array lines line a b;
+      needs = line-needs-own law terms content (front ++ take count piece) array lines line a n.command;
+      first = n.first;
+      is_first = n.is_first;
+      names = n.names;
     }) r
 
 -- after an error the whole piece was taken

@@ -14,7 +14,7 @@ use Rattle.resp_proxy.specs.declared.visit.Read.TheVariants as read
 use Rattle.resp_proxy.specs.Replying.{TakesReplies}
 use Rattle.resp_proxy.specs.Taking.{TakesIn}
 use Rattle.resp_proxy.specs.Terms.{Terms}
-use Rattle.resp_value.specs.Devices.{Appends}
+use Rattle.resp_io.specs.Devices.{Appends}
 use Rattle.resp_value.specs.Rules.{Rules}
 
 -- Bytes were read. If the device's remaining input is known, they are its first bytes.

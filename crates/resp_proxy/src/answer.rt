@@ -1,28 +1,29 @@
 //! The replies of the proxy itself.
 
-ghost use Rattle.std.specs.Prelude.{IfOk, IsTrue};
+ghost use Rattle.std.specs.Prelude.{IfOk, IfSome, IsTrue};
 ghost use Rattle.resp_frames.specs.Texts.{text_of};
 ghost use Rattle.resp_proxy.specs.Leaving.{IsForOwn};
-ghost use Rattle.resp_proxy.specs.Reasons.{BeginsForOwn, FitsAnswer};
-ghost use Rattle.resp_proxy.specs.Refusing.{SameLetters};
+ghost use Rattle.resp_proxy.specs.Reasons.{BeginsNamedForOwn, FitsAnswer};
+ghost use Rattle.resp_proxy.specs.Refusing.{NamesCommand, SameLetters};
 
-use crate::error::ClientError;
+use crate::error::{ClientError, CommandName};
 use crate::hello::hello_text;
 use crate::identity::Identity;
 use crate::settings::Settings;
-use resp_commands::{COMMANDS, Class, class_of, entry};
+use resp_commands::{Class, class_of, entry, subcommand};
 use resp_frames::{CommandFrame, Frames};
 use resp_scan::whole;
 use resp_value::limits::Limits;
 use resp_value::version::Version;
 use std::alloc::{AllocError, Global};
+use std::slice::EscapeAscii;
 
-/// The most bytes of a command's name in an error.
+/// The maximum number of bytes of a command's name in an error.
 const SHOWN: usize = 64;
 
 /// The words of a command that its reply depends on.
 #[derive(Clone, Copy)]
-struct Asked<'a> {
+struct DecidingWords<'a> {
     name: &'a [u8],
     /// The number of words after the name, and the first two of them.
     count: u64,
@@ -30,9 +31,8 @@ struct Asked<'a> {
     second: &'a [u8],
 }
 
-/// Returns whether a command needs a connection of the client's own, or in another setting, and the
-/// proxy does not reply to it. `answers_settings` says whether it replies if the setting stays the
-/// same.
+/// Returns whether a command needs a dedicated connection, or one in another setting, and the proxy
+/// does not reply to it. `answers_settings` says whether it replies if the setting stays the same.
 #[inline(always)]
 pub(crate) fn needs_own(frames: &Frames, answers_settings: bool, command: &CommandFrame) -> bool
     ensures { IsTrue result → IsForOwn command.now.words.class }
@@ -68,9 +68,9 @@ pub(crate) enum Answer {
     Quit,
     /// It closes the client, since the command is a line of a request of HTTP.
     Http,
-    /// It closes the client, since the command needs a connection of the client's own, or another setting,
-    /// and no more are allowed. The bytes after it were meant for that connection.
-    NoneLeft,
+    /// It closes the client, since this command needs a dedicated connection or another setting, and
+    /// no more are allowed. The bytes after it were meant for that connection.
+    NoneLeft(CommandName),
 }
 
 /// Returns what the proxy does with a command that is not sent to the server.
@@ -87,7 +87,7 @@ pub(crate) fn own_answer(
         return Ok(Answer::Reply(b"-ERR no command\r\n".to_vec(alloc)?));
     };
     let mut arguments = words.arguments;
-    let asked = Asked {
+    let asked = DecidingWords {
         name: words.name,
         count: command.words.arguments,
         first: arguments.next().unwrap_or(b""),
@@ -99,30 +99,47 @@ pub(crate) fn own_answer(
     if is(asked.name, b"POST") || is(asked.name, b"HOST:") {
         return Ok(Answer::Http);
     }
-    if !stays(settings, asked) && needs_connection(limits, command.frame.text()) {
-        return Ok(Answer::NoneLeft);
+    if !stays(settings, asked) {
+        if let Some(name) = name_for_own(limits, command.frame.text()) {
+            return Ok(Answer::NoneLeft(name));
+        }
     }
     let text = answer_to(alloc, settings, identity, asked, command.words.class)?;
     Ok(Answer::Reply(text))
 }
 
-/// Returns whether a text begins with a command that needs a connection of the client's own, or in another
-/// setting.
-fn needs_connection(limits: &Limits, text: &[u8]) -> bool
-    ensures { IsTrue result → BeginsForOwn limits.now text.now }
+/// Returns the name of the command with which a text begins, if the command needs a dedicated
+/// connection, or one in another setting.
+fn name_for_own(limits: &Limits, text: &[u8]) -> Option<CommandName>
+    ensures { IfSome result (BeginsNamedForOwn limits.now text.now) }
 {
-    let Some(words) = whole::command(text, limits) else {
-        return false;
-    };
-    matches!(
-        class_of(words.name, words.arguments),
-        Some(Class::OwnConnection | Class::Setting)
-    )
+    let words = whole::command(text, limits)?;
+    let first = words.arguments.iter().next();
+    match class_of(words.name, words.arguments) {
+        Some(Class::OwnConnection | Class::Setting) => command_name(words.name, first),
+        _ => None,
+    }
 }
 
-/// Returns whether the proxy replies to a command that concerns the setting: to SELECT 0 of a client in
-/// database 0, and to HELLO without a user, whose client learns from the reply that its version stays 2.
-fn stays(settings: &Settings, asked: Asked<'_>) -> bool {
+/// Returns the name of the command with this name and this first word after it, as the table has
+/// it, or `None` if the table has no such command, or no such subcommand of it.
+fn command_name(name: &[u8], first: Option<&[u8]>) -> Option<CommandName>
+    ensures { IfSome result (NamesCommand name.now first.entry) }
+{
+    let command = entry(name)?;
+    Some(CommandName {
+        command: command.name(),
+        subcommand: match first {
+            Some(word) if command.has_subcommands() => Some(subcommand(command, word)?.name()),
+            _ => None,
+        },
+    })
+}
+
+/// Returns whether the proxy replies to a command that concerns the setting: to SELECT 0 of a
+/// client in database 0, and to HELLO without a user, whose reply tells the client that its version
+/// is still 2.
+fn stays(settings: &Settings, asked: DecidingWords<'_>) -> bool {
     settings.answers_settings
         && asked.count <= 1
         && (is(asked.name, b"HELLO") || is(asked.name, b"SELECT") && asked.first == b"0".as_slice())
@@ -140,7 +157,7 @@ fn answer_to(
     alloc: Global,
     settings: &Settings,
     identity: &mut Identity,
-    asked: Asked<'_>,
+    asked: DecidingWords<'_>,
     class: Option<Class>,
 ) -> Result<Vec<u8>, AllocError> {
     if is(asked.name, b"CLIENT") && is_own(asked.first) {
@@ -171,13 +188,13 @@ fn is_own(subcommand: &[u8]) -> bool {
         || is(subcommand, b"NO-EVICT")
 }
 
-/// Returns the reply to a subcommand of CLIENT. The name is that of the client, and no other client
-/// is asked.
+/// Returns the reply to a subcommand of CLIENT. The name is that of the client itself, and no other
+/// client is involved.
 fn answer_to_client(
     alloc: Global,
     version: Version,
     identity: &mut Identity,
-    asked: Asked<'_>,
+    asked: DecidingWords<'_>,
 ) -> Result<Vec<u8>, AllocError> {
     if is(asked.first, b"ID") && asked.count == 1 {
         return Ok(format!(in alloc; ":{}\r\n", identity.number)?.into_bytes());
@@ -211,7 +228,7 @@ fn name_of(alloc: Global, version: Version, name: &[u8]) -> Result<Vec<u8>, Allo
     Ok(text)
 }
 
-/// Gives the client a name, if each of its bytes is printable and no space.
+/// Gives the client a name, if each of its bytes is printable and not a space.
 fn set_name(alloc: Global, kept: &mut Vec<u8>, name: &[u8]) -> Result<Vec<u8>, AllocError> {
     if !is_name(name) {
         return b"-ERR Client names cannot contain spaces, newlines or special characters.\r\n".to_vec(
@@ -224,7 +241,7 @@ fn set_name(alloc: Global, kept: &mut Vec<u8>, name: &[u8]) -> Result<Vec<u8>, A
     Ok(answer)
 }
 
-/// Returns whether each byte of a name of a client is printable and no space.
+/// Returns whether each byte of a name of a client is printable and not a space.
 pub(crate) fn is_name(name: &[u8]) -> bool {
     for byte in name {
         if *byte < b'!' || *byte > b'~' {
@@ -235,7 +252,11 @@ pub(crate) fn is_name(name: &[u8]) -> bool {
 }
 
 /// Returns the reply to HELLO: the client stays in version 2.
-fn answer_to_hello(alloc: Global, number: u64, asked: Asked<'_>) -> Result<Vec<u8>, AllocError> {
+fn answer_to_hello(
+    alloc: Global,
+    number: u64,
+    asked: DecidingWords<'_>,
+) -> Result<Vec<u8>, AllocError> {
     if asked.count == 1 && asked.first != b"2".as_slice() {
         return b"-NOPROTO 'HELLO' with another version than 2 needs a connection of its own, and no more are allowed\r\n".to_vec(
             alloc,
@@ -244,7 +265,7 @@ fn answer_to_hello(alloc: Global, number: u64, asked: Asked<'_>) -> Result<Vec<u
     hello_text(alloc, number)
 }
 
-/// Returns the reply to EXEC, DISCARD and UNWATCH outside of a transaction.
+/// Returns the reply to EXEC, DISCARD and UNWATCH outside a transaction.
 fn answer_outside(alloc: Global, name: &[u8]) -> Result<Vec<u8>, AllocError> {
     if is(name, b"EXEC") {
         return b"-ERR EXEC without MULTI\r\n".to_vec(alloc);
@@ -260,46 +281,83 @@ fn ok(alloc: Global) -> Result<Vec<u8>, AllocError> {
 }
 
 /// Returns the error for a command that is not served, with its name, its subcommand and the reason.
-fn refusal(alloc: Global, asked: Asked<'_>, class: Option<Class>) -> Result<Vec<u8>, AllocError> {
-    let name = asked.name[..asked.name.len().min(SHOWN)].escape_ascii();
-    let word = asked.first[..asked.first.len().min(SHOWN)].escape_ascii();
+fn refusal(
+    alloc: Global,
+    asked: DecidingWords<'_>,
+    class: Option<Class>,
+) -> Result<Vec<u8>, AllocError> {
     let text = match (class, entry(asked.name)) {
-        (None, Some(_)) => format!(in alloc; "-ERR unknown subcommand '{word}' of '{name}'\r\n")?,
-        (None, None) => format!(in alloc; "-ERR unknown command '{name}'\r\n")?,
-        (Some(_), Some(command)) if command.has_subcommands() && asked.count > 0 => {
-            format!(in alloc; "-ERR '{name} {word}' is not served by this proxy\r\n")?
+        (None, Some(_)) => {
+            let name = shown(asked.name);
+            let word = shown(asked.first);
+            format!(in alloc; "-ERR unknown subcommand '{word}' of '{name}'\r\n")?
         }
-        (Some(_), _) => format!(in alloc; "-ERR '{name}' is not served by this proxy\r\n")?,
+        (None, None) => {
+            let name = shown(asked.name);
+            format!(in alloc; "-ERR unknown command '{name}'\r\n")?
+        }
+        (Some(_), _) => {
+            let first = (asked.count > 0).then_some(asked.first);
+            let name = full_name(alloc, asked.name, first)?;
+            format!(in alloc; "-ERR '{name}' is not served by this proxy\r\n")?
+        }
     };
     Ok(text.into_bytes())
 }
 
-/// Returns the error for a command of this name that needs a connection of the client's own, if no
-/// more clients may get one.
+/// Returns the beginning of a word, as errors show it.
+fn shown(word: &[u8]) -> EscapeAscii<'_> {
+    word[..word.len().min(SHOWN)].escape_ascii()
+}
+
+/// Returns the name of a command as errors show it: with the first word after it, if the command
+/// has subcommands.
+fn full_name(alloc: Global, name: &[u8], first: Option<&[u8]>) -> Result<String, AllocError> {
+    let has_subcommands = entry(name).is_some_and(|command| command.has_subcommands());
+    let name = shown(name);
+    match first {
+        Some(word) if has_subcommands => {
+            let word = shown(word);
+            format!(in alloc; "{name} {word}")
+        }
+        _ => format!(in alloc; "{name}"),
+    }
+}
+
+/// Returns the error for a command that needs a dedicated connection, if no more clients may get
+/// one. `name` is the name of the command, and `first` is the first word after it.
 ///
 /// # Errors
 ///
 /// `AllocError` if an allocation fails.
-pub fn no_more(alloc: Global, name: &[u8]) -> Result<Vec<u8>, AllocError> {
-    let name = name[..name.len().min(SHOWN)].escape_ascii();
+pub fn no_more(alloc: Global, name: &[u8], first: Option<&[u8]>) -> Result<Vec<u8>, AllocError> {
+    let name = full_name(alloc, name, first)?;
     let text = format!(in alloc;
         "-ERR '{name}' needs a connection of its own, and no more are allowed\r\n"
     )?;
     Ok(text.into_bytes())
 }
 
-/// Returns the error of `no_more` for the command at this place of the table.
-pub(crate) fn no_more_at(alloc: Global, place: Option<u8>) -> Result<Vec<u8>, AllocError> {
-    let name: &[u8] = match place {
-        Some(place) if usize::from(place) < COMMANDS.len() => COMMANDS[usize::from(place)].name(),
-        _ => b"command",
-    };
-    let mut name = name.to_vec(alloc)?;
-    name.make_ascii_uppercase();
-    no_more(alloc, &name)
+/// Returns the error of `no_more` for the command with this name, in upper case.
+pub(crate) fn none_left(alloc: Global, name: CommandName) -> Result<Vec<u8>, AllocError> {
+    let command = upper_case(alloc, name.command)?;
+    match name.subcommand {
+        Some(word) => {
+            let word = upper_case(alloc, word)?;
+            no_more(alloc, &command, Some(&word))
+        }
+        None => no_more(alloc, &command, None),
+    }
 }
 
-/// Returns the error for a client that sent bytes that are no command.
+/// Returns a copy of a word in upper case.
+fn upper_case(alloc: Global, word: &[u8]) -> Result<Vec<u8>, AllocError> {
+    let mut word = word.to_vec(alloc)?;
+    word.make_ascii_uppercase();
+    Ok(word)
+}
+
+/// Returns the error for a client that sent bytes that are not a command.
 pub(crate) fn protocol_error(alloc: Global, error: ClientError) -> Result<Vec<u8>, AllocError> {
     Ok(format!(in alloc; "-ERR Protocol error: {error}\r\n")?.into_bytes())
 }

@@ -12,7 +12,7 @@ ghost use Rattle.resp_proxy.specs.Refusing.{IsOfBytes};
 ghost use Rattle.resp_proxy.specs.Taking.{Carries};
 
 use crate::answer::{Answer, own_answer};
-use crate::counts::Counts;
+use crate::counts::ProxyCounts;
 use crate::error::ClientError;
 use crate::identity::Identity;
 use crate::intake::Intake;
@@ -24,14 +24,14 @@ use resp_mux::{ClientId, ForwardError, Mux, OwnError};
 use resp_value::laws::no_spelling_begins_another;
 use std::alloc::{AllocError, Global};
 
-/// Queues a command for the server if clients may share a connection for it, and the proxy does not reply
-/// to it although they may. Otherwise the proxy itself replies.
+/// Queues a command for the server if clients may share a connection for it and the proxy has no
+/// reply of its own. Otherwise the proxy itself replies.
 #[inline(always)]
 pub(crate) fn carry_out(
     alloc: Global,
     settings: &Settings,
     intake: &Intake,
-    counts: &mut Counts,
+    counts: &mut ProxyCounts,
     identity: &mut Identity,
     mux: &mut Mux,
     who: ClientId,
@@ -54,13 +54,13 @@ pub(crate) fn carry_out(
     answer_or_send(alloc, settings, intake, counts, identity, mux, who, command)
 }
 
-/// Does what `carry_out` does, after the command was counted.
+/// Like `carry_out`, after the command was counted.
 #[inline(never)]
 fn answer_or_send(
     alloc: Global,
     settings: &Settings,
     intake: &Intake,
-    counts: &Counts,
+    counts: &ProxyCounts,
     identity: &mut Identity,
     mux: &mut Mux,
     who: ClientId,
@@ -90,13 +90,13 @@ fn answer_or_send(
         Ok(Answer::Reply(answer)) => own(mux, who, &answer),
         Ok(Answer::Quit) => Err(ClientError::Quit),
         Ok(Answer::Http) => Err(ClientError::Http),
-        Ok(Answer::NoneLeft) => Err(ClientError::NoneLeft(command.words.place)),
+        Ok(Answer::NoneLeft(name)) => Err(ClientError::NoneLeft(name)),
         Err(AllocError) => Err(ClientError::OutOfMemory),
     }
 }
 
-/// Returns whether a command is sent although nobody has read its words: clients may share a connection
-/// for it, and by its name it is one to which the proxy does not reply.
+/// Returns whether a command is sent without its words being read: clients may share a connection
+/// for it, and the proxy replies to no command of this name.
 #[inline(always)]
 fn is_sent(command: &CommandFrame) -> bool
     ensures { IsTrue result → command.now.words.class ≡ Some Class.Shared }

@@ -10,18 +10,18 @@ use resp_frames::Unfinished;
 use resp_mux::ClientId;
 use std::alloc::Global;
 
-/// A client of a proxy: its id, and the bytes that came from it and are not yet a command.
+/// A client of a proxy: its id, and the bytes received from it that are not yet a command.
 ///
 /// It belongs to the proxy that opened it, and to one connection.
 #[derive(Drop)]
 pub struct Client {
     pub(crate) id: ClientId,
-    /// The command that the client has begun.
+    /// The incomplete command of the client.
     pub(crate) unfinished: Unfinished,
     /// The bytes after it. They wait until there is room for more commands.
     pub(crate) rest: BytesMut,
     pub(crate) is_closing: bool,
-    /// Whether the next command, with which `rest` begins, needs a connection of the client's own.
+    /// Whether the next command, with which `rest` begins, needs a dedicated connection.
     pub(crate) is_leaving: bool,
     pub(crate) identity: Identity,
 }

@@ -11,7 +11,7 @@ ghost use Rattle.resp_proxy.specs.Taking.{TakesArray, TakesOne, TakesSome};
 ghost use Rattle.resp_proxy.specs.Unfinished.{WhereUnfinished, terms_of};
 
 use crate::carrying::carry_out;
-use crate::counts::Counts;
+use crate::counts::ProxyCounts;
 use crate::error::ClientError;
 use crate::identity::Identity;
 use crate::intake::Intake;
@@ -24,10 +24,10 @@ use std::alloc::{AllocError, Global};
 
 /// The result of [`take_commands`].
 #[derive(Drop)]
-pub(crate) struct Taken {
+pub(crate) struct TakenCommands {
     /// The number of bytes that were taken, or that belong to the command that was put aside.
     pub(crate) used: usize,
-    /// The text of the next command, an array or a line, if it needs a connection of the client's own. It was
+    /// The text of the next command, an array or a line, if it needs a dedicated connection. It was
     /// not taken.
     pub(crate) aside: Option<Vec<u8>>,
     pub(crate) end: Result<(), ClientError>,
@@ -43,13 +43,13 @@ pub(crate) fn take_commands(
     alloc: Global,
     settings: &Settings,
     intake: &mut Intake,
-    counts: &mut Counts,
+    counts: &mut ProxyCounts,
     unfinished: &mut Unfinished,
     identity: &mut Identity,
     mux: &mut Mux,
     who: ClientId,
     piece: &[u8],
-) -> Taken
+) -> TakenCommands
     ensures taken { WhereUnfinished intake.old unfinished.old (λ front.
         TakesSome (terms_of intake.old) who (front ++ take result.used piece.now) unfinished.new
         (option_map (λ text. text.items) result.aside) result.end mux.old mux.new) }
@@ -83,7 +83,7 @@ pub(crate) fn take_commands(
             Ok(Part::Whole(count)) => used += count,
             Ok(Part::Partial) => return ended(piece.len(), Ok(())),
             Ok(Part::Aside(count, text)) => {
-                return Taken {
+                return TakenCommands {
                     used: used + count,
                     aside: Some(text),
                     end: Ok(()),
@@ -96,23 +96,23 @@ pub(crate) fn take_commands(
 }
 
 /// Returns the result if no command was put aside.
-fn ended(used: usize, end: Result<(), ClientError>) -> Taken
+fn ended(used: usize, end: Result<(), ClientError>) -> TakenCommands
     ensures { result ≡ record { used = used; aside = None; end = end } }
 {
-    Taken {
+    TakenCommands {
         used,
         aside: None,
         end,
     }
 }
 
-/// Takes bytes up to the end of a command, and carries this command out, unless it needs a connection of the
-/// client's own.
+/// Takes bytes up to the end of a command, and carries this command out, unless it needs a
+/// dedicated connection.
 fn take_one(
     alloc: Global,
     settings: &Settings,
     intake: &mut Intake,
-    counts: &mut Counts,
+    counts: &mut ProxyCounts,
     unfinished: &mut Unfinished,
     identity: &mut Identity,
     mux: &mut Mux,
@@ -160,13 +160,13 @@ fn take_one(
     }
 }
 
-/// Takes bytes up to the end of an array, and carries out the command that it is, unless it needs a connection
-/// of the client's own.
+/// Takes bytes up to the end of an array, and carries out the command that it is, unless it needs a
+/// dedicated connection.
 fn take_array(
     alloc: Global,
     settings: &Settings,
     intake: &mut Intake,
-    counts: &mut Counts,
+    counts: &mut ProxyCounts,
     begun: &mut Begun,
     identity: &mut Identity,
     mux: &mut Mux,

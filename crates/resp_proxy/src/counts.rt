@@ -7,14 +7,14 @@ use resp_mux::Mux;
 use std::alloc::{AllocError, Global};
 use std::time::Duration;
 
-/// The counts of a proxy since it began.
+/// The counts of a proxy since it started.
 #[derive(Clone, Copy, Debug, Default, PartialEq, Eq)]
 pub struct Numbers {
     /// The open clients.
     pub clients: u64,
     /// The clients that were accepted.
     pub accepted: u64,
-    /// The clients that were rejected, because the most were open or memory was out.
+    /// The clients that were rejected, because the maximum number was open or an allocation failed.
     pub rejected: u64,
     /// The clients that were closed, because too many bytes waited for them.
     pub unread: u64,
@@ -22,7 +22,7 @@ pub struct Numbers {
     pub own: u64,
     /// The commands that were queued for the server.
     pub commands: u64,
-    /// The commands whose reply was an error of a lost connection or of a missing one.
+    /// The commands whose reply was the error for a lost or missing connection.
     pub failed: u64,
     /// The connections to the server that were opened for clients to share.
     pub connections: u64,
@@ -70,7 +70,7 @@ impl Numbers {
     }
 }
 
-/// Something that a proxy counts.
+/// An event that a proxy counts.
 #[derive(Clone, Copy, Debug, PartialEq, Eq)]
 pub enum Counted {
     /// A client was rejected.
@@ -80,15 +80,16 @@ pub enum Counted {
     /// A client that was opened by [`Proxy::enter`](crate::Proxy::enter) is open. It was accepted
     /// before.
     Entered,
-    /// A client that [`Proxy::leave`](crate::Proxy::leave) has closed is not shared any more.
+    /// A client that [`Proxy::leave`](crate::Proxy::leave) has closed no longer shares the
+    /// connection.
     OwnOpened,
     /// Such a client was closed for good, or was opened by [`Proxy::enter`](crate::Proxy::enter).
     OwnClosed,
-    /// So many commands were queued at this time.
+    /// This many commands were queued at this time.
     Queued(usize, Duration),
-    /// So many commands have their replies at this time.
+    /// This many commands have their replies at this time.
     Replied(usize, Duration),
-    /// So many commands have an error of a lost connection or of a missing one.
+    /// This many commands got the error for a lost or missing connection.
     Failed(usize),
     /// A connection to the server was opened for all clients.
     Connected,
@@ -96,10 +97,10 @@ pub enum Counted {
 
 /// The counts of a proxy, and the times of its replies.
 #[derive(Drop)]
-pub(crate) struct Counts {
+pub(crate) struct ProxyCounts {
     /// The clients of the multiplexer that are the proxy's own.
     hidden: u64,
-    /// The clients that have come from another proxy, or have come back.
+    /// The clients that came from another proxy, or came back.
     entered: u64,
     rejected: u64,
     unread: u64,
@@ -111,7 +112,7 @@ pub(crate) struct Counts {
     /// The numbers of the other proxies of the program, and the times of all.
     others: Numbers,
     times: Option<Times>,
-    /// The commands of clients, by their names.
+    /// The commands of clients, by name.
     pub(crate) commands_by_name: NameCounts,
     /// The error replies.
     pub(crate) errors: ErrorCounts,
@@ -119,10 +120,10 @@ pub(crate) struct Counts {
     pub(crate) count_lines: Option<String>,
 }
 
-impl Counts {
+impl ProxyCounts {
     /// Returns the counts of a proxy that begins.
     pub(crate) fn new(alloc: Global) -> Result<Self, AllocError> {
-        Ok(Counts {
+        Ok(ProxyCounts {
             hidden: 0,
             entered: 0,
             rejected: 0,
@@ -185,15 +186,15 @@ impl Counts {
         }
     }
 
-    /// Returns the lines about commands by name, and behind them those about error replies.
+    /// Returns the lines about commands by name, followed by those about error replies.
     pub(crate) fn lines(&self, alloc: Global) -> Result<String, AllocError> {
         let mut text = self.commands_by_name.lines(alloc)?;
         text.push_str(self.errors.lines(alloc)?.as_str())?;
         Ok(text)
     }
 
-    /// Counts the commands by name and the error replies of another proxy here, and no longer there.
-    pub(crate) fn take(&mut self, other: &mut Counts) {
+    /// Moves the counts of commands by name and of error replies from another proxy to this one.
+    pub(crate) fn take(&mut self, other: &mut ProxyCounts) {
         self.commands_by_name.take(&mut other.commands_by_name);
         self.errors.take(&mut other.errors);
     }
@@ -205,12 +206,12 @@ impl Counts {
         self.times = times;
     }
 
-    /// Counts the times of another proxy here, and no longer there.
-    pub(crate) fn take_times(&mut self, other: &mut Counts) {
+    /// Moves the times of another proxy to this one.
+    pub(crate) fn take_times(&mut self, other: &mut ProxyCounts) {
         self.latency.take_times(&mut other.latency);
     }
 
-    /// Does not count a client of the multiplexer, since it is the proxy's own.
+    /// Does not count a client of the multiplexer, because it is the proxy's own.
     pub(crate) fn hide_client(&mut self) {
         self.hidden = self.hidden.saturating_add(1);
     }

@@ -4,11 +4,21 @@ use resp_frames::FrameError;
 use resp_join::ReplyError;
 use thiserror::Error;
 
-/// Why a client is closed. The client is closing after it: nothing more is taken from it. The bytes after
-/// the commands that were taken justify each error except the last three.
+/// The name of a command, as the table of commands has it.
+#[derive(Clone, Copy, Debug, PartialEq, Eq)]
+pub struct CommandName {
+    /// The name in lower case.
+    pub command: &'static [u8],
+    /// The name of its subcommand in lower case, if it has one.
+    pub subcommand: Option<&'static [u8]>,
+}
+
+/// Why a client is closed. After the error the client is closing, and nothing more is taken from
+/// it. The bytes after the commands that were taken are the cause of each error except the last
+/// three.
 #[derive(Clone, Copy, Debug, PartialEq, Eq, Error)]
 pub enum ClientError {
-    /// A byte was rejected, or a value is no command.
+    /// A byte was rejected, or a value is not a command.
     #[error(transparent)]
     Protocol(FrameError),
     /// A line has a quote that is not closed, or a byte other than a space after a closing quote.
@@ -26,10 +36,10 @@ pub enum ClientError {
     /// The client sent QUIT.
     #[error("the client sent QUIT")]
     Quit,
-    /// The client sent a command that needs a connection of its own, or another setting, and it may get
-    /// neither. The number is the place of the command in the table of commands, if it is known.
+    /// The client sent this command, which needs a connection of its own, or another setting, and it
+    /// may get neither.
     #[error("a command needs a connection of its own, and no more are allowed")]
-    NoneLeft(Option<u8>),
+    NoneLeft(CommandName),
     /// The client is closing.
     #[error("the client is closing")]
     Closing,
@@ -45,12 +55,12 @@ pub enum ClientError {
 /// [`Proxy::lose`](crate::Proxy::lose).
 #[derive(Clone, Copy, Debug, PartialEq, Eq, Error)]
 pub enum ServerError {
-    /// A byte was rejected, a value is a push, no command waits of which a byte was sent, or memory ran
-    /// out.
+    /// A byte was rejected, a value is a push, no command of which a byte was sent is waiting, or
+    /// memory ran out.
     #[error(transparent)]
     Reply(ReplyError),
     /// A reply to a probe is not the expected one. Call
-    /// [`Proxy::lose_out_of_step`](crate::Proxy::lose_out_of_step) in place of `lose`.
+    /// [`Proxy::lose_out_of_step`](crate::Proxy::lose_out_of_step) instead of `lose`.
     #[error("out of step, since a probe got another reply")]
     OutOfStep,
 }

@@ -1,4 +1,4 @@
-//! Error replies of the server, counted by the first words of their texts.
+//! Error replies of the server, counted by the first word of their text.
 
 ghost use Rattle.std.specs.Prelude.{◌≡◌, ◌<◌, ◌≤◌, ℕ, List, length, option_map, slice_get, true, false, IfNone, IfSome};
 ghost use Rattle.resp_proxy.specs.ErrorRows.{AddsErrors, CountsErrors, IsNewRow, MayAddRow, has_word, row_has};
@@ -7,29 +7,30 @@ use arrayvec::ArrayVec;
 use std::alloc::{AllocError, Global};
 use std::{mem, str};
 
-/// The most rows: one for each of 128 words, and the first for all other errors.
+/// The maximum number of rows: one for each of 128 words, and the first for all other errors.
 const MOST_ROWS: usize = 129;
 
-/// The most bytes of a word.
+/// The maximum number of bytes of a word.
 const LONGEST: usize = 32;
 
-/// The most bytes of a reply that are looked at: `-`, a word, and the byte behind it.
+/// The maximum number of bytes of a reply that are examined: `-`, a word, and the byte after it.
 const FRONT: usize = 34;
 
-/// The number of errors whose texts begin with one word. It stays at its greatest value.
+/// The number of errors whose texts begin with one word. It saturates at its maximum.
 #[derive(Drop)]
 pub(crate) struct ErrorRow {
     pub(crate) word: ArrayVec<u8, LONGEST>,
     pub(crate) count: u64,
 }
 
-/// The error replies of a server, in a row for each first word, such as `WRONGTYPE`. The first row is
-/// that of all errors whose word has no row of its own: 128 words have, an allocation failed, or the
-/// word is longer than 32 bytes or has other bytes than upper-case letters, digits, `_` and `-`.
+/// The error replies of a server, in a row for each first word, such as `WRONGTYPE`. The first row
+/// counts all errors whose word has no row of its own: there are 128 words already, an allocation
+/// failed, or the word is longer than 32 bytes or has bytes other than upper-case letters, digits,
+/// `_` and `-`.
 #[derive(Drop)]
 pub(crate) struct ErrorCounts {
     pub(crate) rows: Vec<ErrorRow>,
-    /// The first bytes of the reply that has begun.
+    /// The first bytes of the incomplete reply.
     front: ArrayVec<u8, FRONT>,
     ghost some: { 0 < length rows.items },
     ghost few: { length rows.items ≤ 129 },
@@ -45,8 +46,8 @@ fn row_has(row: Option<&ErrorRow>, word: &[u8]) -> bool
     }
 }
 
-/// Returns the first word of the text of an error, by the first bytes of the reply. Returns `None` if the
-/// word has no row of its own.
+/// Returns the first word of the text of an error, given the first bytes of the reply. Returns
+/// `None` if the word has no row of its own.
 fn word_of(front: &[u8]) -> Option<&[u8]> {
     let mut length = 1;
     while length < front.len() && is_of_word(front[length]) {
@@ -79,8 +80,8 @@ impl ErrorCounts {
         })
     }
 
-    /// Counts a reply that ends in this piece, if it is an error. `is_begun` says whether it has begun in
-    /// an earlier piece.
+    /// Counts a reply that ends in this piece, if it is an error. `is_begun` says whether it began
+    /// in an earlier piece.
     #[inline(always)]
     pub(crate) fn end(&mut self, is_begun: bool, piece: &[u8]) {
         if is_begun || piece.first() == Some(&b'-') {
@@ -102,7 +103,7 @@ impl ErrorCounts {
         }
     }
 
-    /// Counts the reply that has begun with the bytes that are held, if it is an error.
+    /// Counts the reply that begins with the bytes that are held, if it is an error.
     fn count_front(&mut self) {
         let front = mem::replace(&mut self.front, ArrayVec::new());
         if front.as_slice().first() != Some(&b'-') {
@@ -115,7 +116,7 @@ impl ErrorCounts {
         self.count(place, 1);
     }
 
-    /// Counts the errors of another proxy here, and no longer there.
+    /// Moves the counts of errors from another proxy to this one.
     pub(crate) fn take(&mut self, other: &mut ErrorCounts) {
         for from in 0..other.rows.len() {
             let row = &mut other.rows[from];
@@ -152,7 +153,7 @@ impl ErrorCounts {
         Ok(text)
     }
 
-    /// Returns the row of the next word behind this one, or of the first word.
+    /// Returns the row of the next word after this one, or of the first word.
     fn next_row(&self, last: Option<&[u8]>) -> Option<&ErrorRow> {
         let mut next: Option<&ErrorRow> = None;
         for row in &self.rows[1..] {
@@ -165,8 +166,8 @@ impl ErrorCounts {
         next
     }
 
-    /// Returns the place of the row of a word. A row is added if there is none; without memory for it, or
-    /// if there are 128 words already, the place is 0.
+    /// Returns the place of the row of a word. If there is no row, one is added. The place is 0 if
+    /// an allocation fails or there are 128 words already.
     fn place_of(&mut self, word: &[u8]) -> usize
         ensures within { result < length self.new.rows.items }
         ensures named { 0 < result → has_word word.now self.new.rows.items result ≡ true }
@@ -202,7 +203,7 @@ impl ErrorCounts {
         None
     }
 
-    /// Counts so many errors in the row at this place.
+    /// Counts this many errors in the row at this place.
     fn count(&mut self, place: usize, count: u64)
         requires { place < length self.old.rows.items }
         ensures { CountsErrors place count self.old.rows.items self.new.rows.items }
@@ -212,7 +213,7 @@ impl ErrorCounts {
 }
 
 impl ErrorRow {
-    /// Counts so many errors.
+    /// Counts this many errors.
     fn add(&mut self, count: u64)
         ensures { AddsErrors count self.old self.new }
     {

@@ -63,8 +63,7 @@ impl Intake {
         }
     }
 
-    /// Returns whether a command needs a connection of the client's own, and the client may get
-    /// one.
+    /// Returns whether a command needs a dedicated connection, and the client may get one.
     pub(crate) fn sets_aside(&self, command: &CommandFrame) -> bool
         ensures admitted { IsTrue result → self.now.admits_own ≡ true }
         ensures needed { IsTrue result → IsForOwn command.now.words.class }

@@ -1,6 +1,6 @@
 //! How long replies take.
 
-use resp_times::Histogram;
+use resp_stats::Histogram;
 use std::alloc::Global;
 use std::collections::VecDeque;
 use std::mem;
@@ -30,7 +30,7 @@ pub(crate) struct Latency {
     until: Duration,
 }
 
-/// How long replies took, in microseconds. Each number is at most a sixteenth more than the time.
+/// How long replies took, in microseconds. Each number exceeds the time by at most a sixteenth.
 #[derive(Clone, Copy, Debug, Default, PartialEq, Eq)]
 pub struct Times {
     /// Half of the replies took at most this time.
@@ -57,8 +57,8 @@ impl Latency {
         }
     }
 
-    /// Notes that commands were queued at this time. Without memory they count as queued with those
-    /// before.
+    /// Notes that commands were queued at this time. If an allocation fails, they count as queued
+    /// with those before.
     pub(crate) fn queue(&mut self, count: usize, now: Duration) {
         if self.last.count > 0 && self.last.since != now && self.runs.push_back(self.last).is_ok() {
             self.last.count = 0;
@@ -107,7 +107,7 @@ impl Latency {
         taken
     }
 
-    /// Counts the times of another proxy as those of this minute, and no longer there.
+    /// Moves the times of another proxy to the current minute of this one.
     pub(crate) fn take_times(&mut self, other: &mut Latency) {
         let taken = mem::replace(&mut other.recent, Histogram::new());
         self.recent.append(&taken);

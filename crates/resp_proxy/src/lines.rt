@@ -11,7 +11,7 @@ ghost use Rattle.resp_proxy.specs.Taking.{Carries, TakesLine};
 ghost use Rattle.resp_proxy.specs.Unfinished.{terms_of};
 
 use crate::carrying::carry_out;
-use crate::counts::Counts;
+use crate::counts::ProxyCounts;
 use crate::error::ClientError;
 use crate::identity::Identity;
 use crate::intake::Intake;
@@ -24,12 +24,12 @@ use resp_value::laws::no_spelling_begins_another;
 use std::alloc::{AllocError, Global};
 
 /// Takes bytes up to the end of a line, and carries out the command of this line, unless it needs a
-/// connection of the client's own.
+/// dedicated connection.
 pub(crate) fn take_line(
     alloc: Global,
     settings: &Settings,
     intake: &Intake,
-    counts: &mut Counts,
+    counts: &mut ProxyCounts,
     line: &mut Vec<u8>,
     identity: &mut Identity,
     mux: &mut Mux,
@@ -83,8 +83,8 @@ pub(crate) fn take_line(
     }
 }
 
-/// Returns whether the command that is this text needs a connection of the client's own, and the client may
-/// get one.
+/// Returns whether the command with this text needs a dedicated connection, and the client may get
+/// one.
 fn needs_own_text(intake: &Intake, text: &[u8]) -> bool
     ensures admitted { IsTrue result → intake.now.admits_own ≡ true }
     ensures needed { IsCommand (terms_of intake.now).rules.limits text.now → IsTrue result →
@@ -108,7 +108,7 @@ fn with_end(content: Vec<u8>) -> Result<Vec<u8>, AllocError>
     }
 }
 
-/// Returns the error for a line that is no command.
+/// Returns the error for a line that is not a command.
 fn error_of_line(error: InlineError) -> ClientError
     ensures { result ≡ inline_error error }
 {
@@ -120,12 +120,12 @@ fn error_of_line(error: InlineError) -> ClientError
     }
 }
 
-/// Carries out the command that is this text.
+/// Carries out the command with this text.
 fn carry_out_text(
     alloc: Global,
     settings: &Settings,
     intake: &Intake,
-    counts: &mut Counts,
+    counts: &mut ProxyCounts,
     identity: &mut Identity,
     mux: &mut Mux,
     who: ClientId,

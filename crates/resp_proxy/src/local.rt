@@ -1,6 +1,6 @@
 //! Replies of the proxy itself to commands that the server would reply to.
 
-use crate::counts::{Counts, Numbers};
+use crate::counts::{Numbers, ProxyCounts};
 use crate::latency::Times;
 use crate::settings::Settings;
 use resp_frames::CommandFrame;
@@ -8,7 +8,8 @@ use resp_mux::Mux;
 use resp_scan::whole;
 use std::alloc::{AllocError, Global};
 
-/// Where the name of a command of one or two words with a name of four bytes is in its usual spelling.
+/// The index of the name in the usual text of a command that has one or two words and a name of
+/// four bytes.
 const NAME: usize = 8;
 
 /// Returns the reply of the proxy to `INFO proxy`, and to PING if the settings ask for it. Returns `None` if
@@ -16,7 +17,7 @@ const NAME: usize = 8;
 pub(crate) fn local_answer(
     alloc: Global,
     settings: &Settings,
-    counts: &Counts,
+    counts: &ProxyCounts,
     mux: &Mux,
     command: &CommandFrame,
 ) -> Result<Option<Vec<u8>>, AllocError> {
@@ -35,8 +36,8 @@ pub(crate) fn local_answer(
     Ok(None)
 }
 
-/// Returns whether a command may be INFO or PING, by its number of words and the first letter of its name.
-/// Most commands are neither.
+/// Returns whether a command may be INFO or PING, judging by its number of words and the first
+/// letter of its name. Most commands are neither.
 #[inline(always)]
 pub(crate) fn may_be_answered(command: &CommandFrame) -> bool {
     command.words.arguments <= 1
@@ -50,7 +51,7 @@ pub(crate) fn may_be_answered(command: &CommandFrame) -> bool {
 fn info(
     alloc: Global,
     settings: &Settings,
-    counts: &Counts,
+    counts: &ProxyCounts,
     mux: &Mux,
     text: &[u8],
 ) -> Result<Option<Vec<u8>>, AllocError> {
@@ -67,7 +68,7 @@ fn info(
 }
 
 /// Returns the text of the section `proxy`.
-fn section_of(alloc: Global, counts: &Counts, mux: &Mux) -> Result<String, AllocError> {
+fn section_of(alloc: Global, counts: &ProxyCounts, mux: &Mux) -> Result<String, AllocError> {
     let Numbers {
         clients,
         accepted,

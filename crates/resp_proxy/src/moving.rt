@@ -20,8 +20,8 @@ use resp_mux::OpenError;
 use resp_value::version::Version;
 use std::alloc::{AllocError, Global};
 
-/// A client that has left a proxy after it was given the replies to all its commands: its number,
-/// its name, and the bytes from its next command on.
+/// A client that has left a proxy after it got the replies to all its commands: its number, its
+/// name, and the bytes from its next command on.
 #[derive(Drop)]
 pub struct Departed {
     pub(crate) identity: Identity,
@@ -36,7 +36,7 @@ impl Departed {
         self.rest.as_slice()
     }
 
-    /// Removes the first bytes: those of a command that was answered.
+    /// Removes the first bytes: those of a command that got its reply.
     pub fn skip(&mut self, count: usize)
         requires { count ≤ length (rest_of self.old) }
         ensures rest { rest_of self.new ≡ drop count (rest_of self.old) }
@@ -45,7 +45,7 @@ impl Departed {
         self.rest.advance(count);
     }
 
-    /// Returns the bytes from the next command on. The client is sent over a connection of its own.
+    /// Returns the bytes from the next command on. They are sent over the client's own connection.
     pub fn into_rest(self) -> BytesMut
         ensures { result.items ≡ rest_of self }
     {
@@ -53,7 +53,7 @@ impl Departed {
         rest
     }
 
-    /// Gives the client a name, as HELLO does with SETNAME. No byte means no name.
+    /// Gives the client a name, as HELLO does with SETNAME. An empty name means no name.
     pub fn set_name(&mut self, name: Vec<u8>)
         ensures same_rest { rest_of self.new ≡ rest_of self.old }
         ensures same_number { number_of self.new ≡ number_of self.old }
@@ -62,7 +62,7 @@ impl Departed {
     }
 
     /// Returns the reply to HELLO for this client. `reply` is the reply of the server to HELLO over
-    /// the connection that the client shares, or no byte in version 2.
+    /// the connection that the client shares, or empty in version 2.
     ///
     /// # Errors
     ///
@@ -85,7 +85,8 @@ impl Departed {
     }
 }
 
-/// Returns whether each byte of a name is printable and no space, as a name of a client has to be.
+/// Returns whether each byte of a name is printable and not a space, as a name of a client has to
+/// be.
 pub fn is_client_name(name: &[u8]) -> bool {
     is_name(name)
 }
@@ -99,7 +100,7 @@ impl Proxy {
         client.is_leaving && has_all(&self.mux, client.id)
     }
 
-    /// Closes a client that may leave: its next command needs another connection, and it was given
+    /// Closes a client that may leave: its next command needs another connection, and it has got
     /// the replies to all commands before. Returns what it keeps, with the bytes from this command
     /// on.
     ///
@@ -125,8 +126,8 @@ impl Proxy {
         Ok(Departed { identity, rest })
     }
 
-    /// Opens a client that has left this proxy or another one. It is owed this reply first, and
-    /// holds the bytes that it left with. No client had its id in this proxy before.
+    /// Opens a client that has left this proxy or another one. It gets this reply first, and holds
+    /// the bytes that it left with. No client had its id in this proxy before.
     ///
     /// # Errors
     ///

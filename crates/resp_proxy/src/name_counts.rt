@@ -1,4 +1,4 @@
-//! Commands, counted by their names.
+//! Commands, counted by name.
 
 ghost use Rattle.std.specs.Prelude.{◌≡◌, length};
 ghost use Rattle.resp_commands.specs.declared.table.TheConstants.{COMMANDS};
@@ -8,7 +8,7 @@ use resp_commands::COMMANDS;
 use std::alloc::{AllocError, Global};
 use std::str;
 
-/// The number of commands of each name in the table of commands. A number stays at its greatest value.
+/// The number of commands of each name in the table of commands. A number saturates at its maximum.
 #[derive(Drop)]
 pub(crate) struct NameCounts {
     pub(crate) counts: Vec<u64>,
@@ -23,7 +23,8 @@ impl NameCounts {
         })
     }
 
-    /// Counts a command by its place in the table. A command that the table does not have is not counted.
+    /// Counts a command, given its place in the table. A command that the table does not have is
+    /// not counted.
     #[inline(always)]
     pub(crate) fn add(&mut self, place: Option<u8>)
         ensures { CountsCommand place self.old.counts.items self.new.counts.items }
@@ -33,7 +34,7 @@ impl NameCounts {
         }
     }
 
-    /// Counts so many commands at a place of the table, if the table has it.
+    /// Counts this many commands at a place of the table, if the table has it.
     #[inline(always)]
     fn add_at(&mut self, place: usize, count: u64)
         ensures { AddsCommands place count self.old.counts.items self.new.counts.items }
@@ -43,7 +44,7 @@ impl NameCounts {
         }
     }
 
-    /// Counts the commands of another proxy here, and no longer there.
+    /// Moves the counts of commands from another proxy to this one.
     pub(crate) fn take(&mut self, other: &mut NameCounts) {
         for place in 0..other.counts.len() {
             self.add_at(place, other.counts[place]);

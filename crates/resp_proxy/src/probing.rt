@@ -1,4 +1,4 @@
-//! Probes of the connection to the server: commands of the proxy's own, whose replies are known.
+//! Probes of the connection to the server: the proxy's own commands, whose replies are known.
 
 ghost use Rattle.std.specs.Prelude.{◌≡◌, ℕ, List, ◌⊎◌, ◌++◌, None, [], codes, false, IfOk, IsTrue, OnErr, OnOk};
 ghost use Rattle.resp_proxy.specs.Probing.{AreInStep, IsAnother, echo_text, echoed_text};
@@ -10,7 +10,7 @@ use std::alloc::{AllocError, Global};
 /// The bytes of the reply to a probe.
 const REPLY: usize = 39;
 
-/// The client of the proxy's own that sends probes, if there is one.
+/// The proxy's own client that sends probes, if there is one.
 #[derive(Drop)]
 pub(crate) struct Prober {
     pub(crate) who: Option<ClientId>,
@@ -62,7 +62,7 @@ impl Prober {
         }
     }
 
-    /// Expects the reply to a probe with this word, behind the other replies.
+    /// Expects the reply to a probe with this word, after the other replies.
     pub(crate) fn expect(&mut self, alloc: Global, word: &[u8; 32]) -> Result<(), AllocError>
         ensures expected { OnOk result
             (self.new.expected.items ≡ self.old.expected.items ++ echoed_text word.now) }
@@ -73,7 +73,8 @@ impl Prober {
         self.expected.extend_from_slice(&reply)
     }
 
-    /// Expects only the replies of so many commands that wait: those that were expected last.
+    /// Keeps only this many of the expected replies, for the commands that wait: those that were
+    /// expected last.
     pub(crate) fn keep(&mut self, waiting: u32)
         ensures rest { (gone : List ℕ) × (self.old.expected.items ≡ gone ++ self.new.expected.items) }
         ensures same_client { self.new.who ≡ self.old.who }
@@ -91,7 +92,7 @@ pub(crate) fn echo(alloc: Global, word: &[u8; 32]) -> Result<Vec<u8>, AllocError
     text_with(alloc, b"*2\r\n$4\r\nECHO\r\n$32\r\n", word)
 }
 
-/// Returns a text with a word and CR LF behind it.
+/// Returns a text followed by a word and CR LF.
 fn text_with(alloc: Global, before: &[u8], word: &[u8]) -> Result<Vec<u8>, AllocError>
     ensures { IfOk result (λ text. text.items ≡ before.now ++ word.now ++ codes "\r\n") }
 {

@@ -14,15 +14,15 @@ ghost use Rattle.resp_proxy.specs.Terms.{with_admitted};
 ghost use Rattle.resp_proxy.specs.Unfinished.{terms_by};
 ghost use Rattle.resp_proxy.specs.Telling.{Tells};
 ghost use Rattle.resp_proxy.specs.Visiting.{GivesSome, HasNothingFor, IsDone, SendsSome};
-ghost use Rattle.resp_value.specs.Devices.{count_after};
+ghost use Rattle.resp_io.specs.Devices.{count_after};
 ghost use Rattle.resp_value.specs.Rules.{Rules, rules_under};
 ghost use Rattle.resp_proxy.specs.Leaving.{LeavesRightly};
 ghost use Rattle.resp_proxy.specs.Proxies.{HasBegunBy, HasNoClient, HasRoomFor, WhereBegunBy, WhereHeld, expected_of, lost_text, out_of_step_text, prober_of, admits_own, mux_of, replied_to, reply_rules_of, terms_of, server_begun, settings_of, with_own_admitted, with_replied, with_terms};
 
 use crate::client::Client;
-use crate::counts::{Counted, Counts, Numbers};
+use crate::counts::{Counted, Numbers, ProxyCounts};
 use crate::error::{ClientError, ServerError};
-use crate::giving::{Written, give, has_no_bytes, has_no_command, send};
+use crate::giving::{WriteOutcome, give, has_no_bytes, has_no_command, send};
 use crate::intake::Intake;
 use crate::latency::Times;
 use crate::probing::{Prober, echo};
@@ -32,8 +32,8 @@ use crate::taking::{shut, take_in};
 use crate::told::note_begun;
 use bytes::BytesMut;
 use resp_frames::{Begun, Frames};
+use resp_io::device::Sink;
 use resp_mux::{Bounds, ClientId, ForwardError, Mux, OpenError};
-use resp_value::device::Sink;
 use std::alloc::{AllocError, Global};
 use std::collections::VecDeque;
 use std::marker::Model;
@@ -52,12 +52,12 @@ pub struct Proxy {
     pub(crate) mux: Mux,
     /// The commands of all clients.
     pub(crate) intake: Intake,
-    pub(crate) counts: Counts,
+    pub(crate) counts: ProxyCounts,
     /// Finds the replies of the server.
     replies: Frames,
-    /// The reply that the server has begun.
+    /// The incomplete reply of the server.
     begun: Begun,
-    /// The clients that were replied to and were not asked for yet.
+    /// The clients that were replied to and not yet returned by [`Proxy::next_replied`].
     replied: VecDeque<ClientId>,
     prober: Prober,
 }
@@ -85,7 +85,7 @@ impl Model for Proxy {
 }
 
 impl Proxy {
-    /// Returns a proxy without clients, before the connection to the server has brought a byte.
+    /// Returns a proxy without clients, before any byte of the server was received.
     ///
     /// # Errors
     ///
@@ -112,7 +112,7 @@ impl Proxy {
             settings,
             mux: Mux::new(alloc, bounds),
             intake,
-            counts: Counts::new(alloc)?,
+            counts: ProxyCounts::new(alloc)?,
             replies,
             begun: Begun::new(),
             replied: VecDeque::new(alloc),
@@ -120,9 +120,10 @@ impl Proxy {
         })
     }
 
-    /// Admits a command of this name, in upper, lower or mixed case, if the table of commands does not have
-    /// it: from now on it is sent to the server, as a command for which clients may share a connection.
-    /// The caller knows that it has one reply, does not wait, and leaves nothing behind in the connection.
+    /// Admits a command of this name, in upper, lower or mixed case, if the table of commands does
+    /// not have it: from now on it is sent to the server, as a command for which clients may share
+    /// a connection. The caller has to know that it has one reply, does not wait, and leaves no
+    /// state in the connection.
     ///
     /// # Errors
     ///
@@ -158,7 +159,7 @@ impl Proxy {
         }
     }
 
-    /// Opens the client of the proxy's own that sends probes. Call it once.
+    /// Opens the proxy's own client that sends probes. Call it once.
     ///
     /// # Errors
     ///
@@ -181,13 +182,14 @@ impl Proxy {
         }
     }
 
-    /// Returns whether this is the client of the proxy's own that sends probes.
+    /// Returns whether this is the proxy's own client that sends probes.
     pub fn is_prober(&self, who: ClientId) -> bool {
         self.prober.who == Some(who)
     }
 
-    /// Queues ECHO with this word for the server, as a command of the proxy's own, behind the commands that
-    /// were queued before. Its reply has to be this word: with another reply [`Proxy::from_server`] fails.
+    /// Queues ECHO with this word for the server, as the proxy's own command, after the commands
+    /// that were queued before. Its reply has to be this word: [`Proxy::from_server`] fails at any
+    /// other reply.
     ///
     /// # Errors
     ///
@@ -248,8 +250,7 @@ impl Proxy {
         self.prober.keep(waiting);
     }
 
-    /// Closes a client. Nobody gets the replies that are missing. Its commands still
-    /// go to the server.
+    /// Closes a client. No client gets the missing replies. Its commands still go to the server.
     pub fn close(&mut self, client: Client)
         ensures closed { HasClosed (mux_of self.old) (mux_of self.new) (client_id client) }
         ensures passed { KeepsPassed (mux_of self.old) (mux_of self.new) }
@@ -320,7 +321,7 @@ impl Proxy {
         self.mux.to_server().len()
     }
 
-    /// Returns the number of bytes that wait to be written to this client, 0 if it is not open.
+    /// Returns the number of bytes that wait to be written to this client, or 0 if it is not open.
     pub fn unread(&self, client: &Client) -> usize
         ensures { result ≡ length (unwrap_or
             (waiting_for (mux_of self.now) (client_id client.now)) []) }
@@ -355,15 +356,15 @@ impl Proxy {
             && has_no_command(&self.mux, client.id)
     }
 
-    /// Sets whether a client may get a connection of its own. If not, the proxy replies by an error to each
-    /// command that needs one.
+    /// Sets whether a client may get a connection of its own. If not, the proxy replies with an
+    /// error to each command that needs one.
     pub fn admit_own(&mut self, is_admitted: bool)
         ensures { self.new ≡ with_own_admitted is_admitted self.old }
     {
         self.intake.admits_own = is_admitted;
     }
 
-    /// Counts. `INFO proxy` prints the numbers.
+    /// Counts an event. `INFO proxy` prints the numbers.
     pub fn count(&mut self, counted: Counted)
         ensures same_state { self.new ≡ self.old }
     {
@@ -388,7 +389,7 @@ impl Proxy {
         self.counts.set_others(others, times);
     }
 
-    /// Counts how long replies of another proxy took here, and no longer there.
+    /// Moves the times of the replies of another proxy to this one.
     pub fn take_times(&mut self, other: &mut Proxy)
         ensures same_state { self.new ≡ self.old }
         ensures other_state { other.new ≡ other.old }
@@ -396,7 +397,7 @@ impl Proxy {
         self.counts.take_times(&mut other.counts);
     }
 
-    /// Counts the commands by name and the error replies of another proxy here, and no longer there.
+    /// Moves the counts of commands by name and of error replies from another proxy to this one.
     pub fn take_counts(&mut self, other: &mut Proxy)
         ensures same_state { self.new ≡ self.old }
         ensures other_state { other.new ≡ other.old }
@@ -421,7 +422,7 @@ impl Proxy {
         self.counts.count_lines = Some(lines);
     }
 
-    /// Returns how long the replies of the last one to two minutes took, as it was counted.
+    /// Returns the counted times of the replies of the last one to two minutes.
     pub fn times(&self) -> Times {
         self.counts.times()
     }
@@ -479,9 +480,9 @@ impl Proxy {
         }
     }
 
-    /// Replies to each command that waits of which a byte was sent by an error, since the connection to
-    /// the server was lost, and forgets the reply that the server had begun. The other commands wait
-    /// for a new connection.
+    /// Replies with an error to each waiting command of which a byte was sent, because the
+    /// connection to the server was lost, and forgets the incomplete reply of the server. The other
+    /// commands wait for a new connection.
     ///
     /// # Errors
     ///
@@ -502,8 +503,8 @@ impl Proxy {
         self.lose_by(LOST)
     }
 
-    /// Does what `lose` does after [`ServerError::OutOfStep`]: the error says that the connection was out of
-    /// step.
+    /// Like [`Proxy::lose`], after [`ServerError::OutOfStep`]: the error reply says that the
+    /// connection was out of step.
     ///
     /// # Errors
     ///
@@ -523,7 +524,7 @@ impl Proxy {
         self.lose_by(OUT_OF_STEP)
     }
 
-    /// Does what `lose` does, with this text as the reply.
+    /// Like `lose`, with this text as the reply.
     fn lose_by(&mut self, text: &[u8]) -> Result<(), AllocError>
         ensures passed { OnOk result (WherePassed (mux_of self.old) (λ p.
             HasPassed (mux_of self.new)
@@ -541,8 +542,8 @@ impl Proxy {
         self.mux.lose(text)
     }
 
-    /// Replies to each command that waits by this text, since no connection to the server can be opened.
-    /// No byte of them is sent. A new connection begins.
+    /// Replies with this text to each command that waits, because no connection to the server can
+    /// be opened. No byte of them is sent. A new connection begins.
     ///
     /// # Errors
     ///
@@ -576,10 +577,10 @@ impl Proxy {
     }
 
     /// Writes bytes that wait for a client, with at most one write.
-    pub fn give<W: Sink>(&mut self, client: &Client, writer: &mut W) -> Written
+    pub fn give<W: Sink>(&mut self, client: &Client, writer: &mut W) -> WriteOutcome
         ensures gives { GivesSome (W.written writer.old) (W.written writer.new)
             (client_id client.now) (mux_of self.old) (mux_of self.new) }
-        ensures all { result ≡ Written.All →
+        ensures all { result ≡ WriteOutcome.All →
             HasNothingFor (mux_of self.new) (client_id client.now) }
         ensures once { HasNothingFor (mux_of self.old) (client_id client.now) ⊎
             (W.calls writer.new ≡ count_after 1 (W.calls writer.old)) }
@@ -591,11 +592,11 @@ impl Proxy {
     }
 
     /// Writes bytes that wait for the server, with at most one write.
-    pub fn send<W: Sink>(&mut self, writer: &mut W) -> Written
+    pub fn send<W: Sink>(&mut self, writer: &mut W) -> WriteOutcome
         ensures sends { SendsSome (W.written writer.old) (W.written writer.new)
             (mux_of self.old) (mux_of self.new) }
         ensures same_bytes { KeepsBytes (mux_of self.old) (mux_of self.new) }
-        ensures all { result ≡ Written.All → unsent (mux_of self.new) ≡ [] }
+        ensures all { result ≡ WriteOutcome.All → unsent (mux_of self.new) ≡ [] }
         ensures once { (unsent (mux_of self.old) ≡ []) ⊎
             (W.calls writer.new ≡ count_after 1 (W.calls writer.old)) }
         ensures same_clients { KeepsClients (mux_of self.old) (mux_of self.new) }
@@ -607,7 +608,7 @@ impl Proxy {
     }
 }
 
-/// Forgets the bytes of the value that has begun.
+/// Forgets the bytes of the incomplete value.
 fn forget(begun: &mut Begun)
     ensures { (rules : Rules) → HasBegun rules begun.new [] }
 {

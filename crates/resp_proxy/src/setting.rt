@@ -15,7 +15,7 @@ use std::alloc::{AllocError, Global};
 /// The name of the user of AUTH without a name.
 const DEFAULT: &[u8] = b"default";
 
-/// The most bytes of a word in a log.
+/// The maximum number of bytes of a word in a log.
 const SHOWN: usize = 64;
 
 /// The version, the database and the user in which commands run.
@@ -29,7 +29,7 @@ pub struct Setting {
     pub login: Option<Login>,
 }
 
-/// A user and its password. The password is part of no text that is printed.
+/// A user and its password. The password is never printed.
 #[derive(Drop)]
 pub struct Login {
     pub(crate) user: Option<Vec<u8>>,
@@ -134,7 +134,7 @@ impl Setting {
     }
 
     /// Appends the commands that a new connection to the server begins with, and returns their
-    /// number. `own` is the command AUTH of the proxy's own user, or no byte.
+    /// number. `own` is the command AUTH of the proxy's own user, or empty.
     ///
     /// # Errors
     ///

@@ -12,20 +12,20 @@ use resp_value::version::Version;
 pub struct Settings {
     /// The limits on commands and replies.
     pub limits: Limits,
-    /// The most commands of one client that wait for replies. 0 lets no command pass.
+    /// The maximum number of commands of one client that wait for replies. 0 lets no command pass.
     pub waiting: u32,
     /// No command of a client is taken while more than this number of bytes wait for the client.
     pub held: usize,
     /// No command is taken while more than this number of bytes wait for the server.
     pub unsent: usize,
-    /// Whether a line of words is a command too, as `PING` and LF.
+    /// Whether a line of words is a command too, such as `PING` and LF.
     pub lines: bool,
     /// Whether the proxy itself replies to PING.
     pub local_ping: bool,
     /// The version of the replies of the server.
     pub version: Version,
     /// Whether the proxy itself replies to HELLO and SELECT if they leave a client in version 2 and
-    /// in database 0. It is for clients that are in both.
+    /// in database 0. It is for clients in this version and database.
     pub answers_settings: bool,
 }
 

@@ -11,11 +11,11 @@ ghost use Rattle.resp_proxy.specs.Taking.{SaysLast, TakesHeld, TakesIn};
 ghost use Rattle.resp_proxy.specs.Terms.{Terms};
 ghost use Rattle.resp_proxy.specs.Unfinished.{terms_of};
 
-use crate::answer::{no_more_at, protocol_error};
+use crate::answer::{none_left, protocol_error};
 use crate::carrying::own;
 use crate::client::Client;
 use crate::commands::take_commands;
-use crate::counts::Counts;
+use crate::counts::ProxyCounts;
 use crate::error::ClientError;
 use crate::intake::Intake;
 use crate::settings::Settings;
@@ -30,7 +30,7 @@ pub(crate) fn take_in(
     alloc: Global,
     settings: &Settings,
     intake: &mut Intake,
-    counts: &mut Counts,
+    counts: &mut ProxyCounts,
     mux: &mut Mux,
     client: &mut Client,
     piece: &[u8],
@@ -64,12 +64,12 @@ pub(crate) fn take_in(
     taken
 }
 
-/// Does what `take_in` does, but after an error the client is not shut.
+/// Like `take_in`, but after an error the client is not shut.
 fn take_held(
     alloc: Global,
     settings: &Settings,
     intake: &mut Intake,
-    counts: &mut Counts,
+    counts: &mut ProxyCounts,
     mux: &mut Mux,
     client: &mut Client,
     piece: &[u8],
@@ -111,12 +111,12 @@ fn take_held(
     }
 }
 
-/// Does what `take_held` does, if no bytes wait for room.
+/// Like `take_held`, if no bytes wait for room.
 fn take_piece(
     alloc: Global,
     settings: &Settings,
     intake: &mut Intake,
-    counts: &mut Counts,
+    counts: &mut ProxyCounts,
     mux: &mut Mux,
     client: &mut Client,
     piece: &[u8],
@@ -159,7 +159,7 @@ fn take_piece(
     put_back(alloc, client, taken.aside)
 }
 
-/// Holds bytes behind those that a client holds.
+/// Holds bytes after those that a client already holds.
 fn keep(client: &mut Client, bytes: &[u8]) -> Result<(), ClientError>
     ensures kept { OnOk result (client.new.rest.items ≡ client.old.rest.items ++ bytes.now) }
     ensures memory { IfErr result (λ error. error ≡ ClientError.OutOfMemory) }
@@ -173,12 +173,12 @@ fn keep(client: &mut Client, bytes: &[u8]) -> Result<(), ClientError>
     }
 }
 
-/// Does what `take_held` does, behind the bytes that wait for room.
+/// Like `take_held`, for bytes after those that wait for room.
 fn take_rest(
     alloc: Global,
     settings: &Settings,
     intake: &mut Intake,
-    counts: &mut Counts,
+    counts: &mut ProxyCounts,
     mux: &mut Mux,
     client: &mut Client,
     piece: &[u8],
@@ -221,7 +221,7 @@ fn take_rest(
     put_back(alloc, client, taken.aside)
 }
 
-/// Puts a command that needs a connection of the client's own before the bytes that the client holds.
+/// Puts a command that needs a dedicated connection before the bytes that the client holds.
 fn put_back(alloc: Global, client: &mut Client, aside: Option<Vec<u8>>) -> Result<(), ClientError>
     ensures put { OnOk result (PutsBack (option_map (λ text. text.items) aside) client.old client.new) }
     ensures memory { IfErr result (λ error. error ≡ ClientError.OutOfMemory) }
@@ -243,7 +243,7 @@ fn put_back(alloc: Global, client: &mut Client, aside: Option<Vec<u8>>) -> Resul
     Ok(())
 }
 
-/// Removes the first bytes of those that wait for room. Without bytes it holds no memory.
+/// Removes the first of the bytes that wait for room. If no bytes are left, no memory is held.
 fn remove(alloc: Global, client: &mut Client, count: usize)
     requires { count ≤ length client.old.rest.items }
     ensures rest { client.new.rest.items ≡ drop count client.old.rest.items }
@@ -280,8 +280,8 @@ fn say_last(alloc: Global, mux: &mut Mux, who: ClientId, error: ClientError)
         ClientError::Quit => {
             let _ = own(mux, who, b"+OK\r\n");
         }
-        ClientError::NoneLeft(place) => {
-            if let Ok(text) = no_more_at(alloc, place) {
+        ClientError::NoneLeft(name) => {
+            if let Ok(text) = none_left(alloc, name) {
                 let _ = own(mux, who, &text);
             }
         }

@@ -9,7 +9,7 @@ use resp_mux::{ClientId, Mux};
 use std::alloc::AllocError;
 use std::collections::VecDeque;
 
-/// Makes room for one more client. There nearly always is.
+/// Makes room for one more client. There is nearly always room already.
 #[inline(always)]
 pub(crate) fn make_room(queued: &mut VecDeque<ClientId>) -> Result<(), AllocError>
     ensures room { OnOk result (deque_len queued.new < deque_capacity queued.new) }
@@ -21,7 +21,7 @@ pub(crate) fn make_room(queued: &mut VecDeque<ClientId>) -> Result<(), AllocErro
     queued.reserve(1)
 }
 
-/// Queues a client, for which there is memory. It is not queued twice in a row.
+/// Queues a client, for which there is room. It is not queued twice in a row.
 pub(crate) fn note(queued: &mut VecDeque<ClientId>, who: ClientId)
     requires { deque_len queued.old < deque_capacity queued.old }
     ensures { Notes who queued.old.items queued.new.items }
@@ -34,7 +34,7 @@ pub(crate) fn note(queued: &mut VecDeque<ClientId>, who: ClientId)
     queued.push_back_reserved(who);
 }
 
-/// Queues the clients of the commands that wait of which a byte was sent.
+/// Queues the clients of the waiting commands of which a byte was sent.
 pub(crate) fn note_begun(queued: &mut VecDeque<ClientId>, mux: &Mux) -> Result<(), AllocError>
     ensures noted { NotesSome (waiting_clients mux.now) queued.old.items queued.new.items }
     ensures all { OnOk result (Covers (begun_clients mux.now) queued.new.items) }

@@ -8,13 +8,13 @@ ghost use Rattle.resp_proxy.specs.Proxies.{HasRoomFor, WhereBegunBy, WhereHeld, 
 ghost use Rattle.resp_proxy.specs.Probing.{KeepsStep};
 ghost use Rattle.resp_proxy.specs.Telling.{Tells};
 ghost use Rattle.resp_proxy.specs.Visiting.{HasNothingFor, OthersKeep, ReadsClient, ReadsServer, VisitsClient, VisitsServer};
-ghost use Rattle.resp_value.specs.Devices.{count_after};
+ghost use Rattle.resp_io.specs.Devices.{count_after};
 
 use crate::client::Client;
 use crate::error::{ClientError, ServerError};
-use crate::giving::Written;
+use crate::giving::WriteOutcome;
 use crate::proxy::Proxy;
-use resp_value::device::{DeviceFault, Sink, Source};
+use resp_io::device::{DeviceFault, Sink, Source};
 
 /// The result of the read of a client.
 #[derive(Clone, Copy, Debug, PartialEq, Eq)]
@@ -34,11 +34,11 @@ pub enum Read {
 
 /// The result of [`Proxy::visit_client`].
 #[derive(Clone, Copy, Debug, PartialEq, Eq)]
-pub struct Visit {
+pub struct ClientVisit {
     /// The result of the read.
     pub read: Read,
     /// The result of the write.
-    pub written: Written,
+    pub written: WriteOutcome,
 }
 
 /// The result of [`Proxy::visit_server`].
@@ -50,7 +50,7 @@ pub struct ServerVisit {
     /// An error if the connection is not usable. Then nothing was written.
     pub end: Result<(), ServerError>,
     /// The result of the write.
-    pub written: Written,
+    pub written: WriteOutcome,
 }
 
 impl Proxy {
@@ -63,7 +63,7 @@ impl Proxy {
         reader: &mut R,
         writer: &mut W,
         buffer: &mut [u8],
-    ) -> Visit
+    ) -> ClientVisit
         requires { 0 < length buffer.old }
         // The bytes read came from this client, and the bytes written are those that it was owed.
         ensures visited { WhereHeld self.old client.old (λ held. VisitsClient (terms_of self.old)
@@ -82,7 +82,7 @@ impl Proxy {
         ensures leaves { WhereHeld self.old client.old (λ held.
             LeavesRightly (terms_of self.old) client.old →
             LeavesRightly (terms_of self.old) client.new) }
-        ensures all { result.written ≡ Written.All →
+        ensures all { result.written ≡ WriteOutcome.All →
             HasNothingFor (mux_of self.new) (client_id client.old) }
         ensures same_client { client_id client.new ≡ client_id client.old }
         ensures same_clients { KeepsClients (mux_of self.old) (mux_of self.new) }
@@ -91,7 +91,7 @@ impl Proxy {
     {
         let read = self.read_client(client, reader, buffer);
         let written = self.give(client, writer);
-        Visit { read, written }
+        ClientVisit { read, written }
     }
 
     /// Reads bytes of a client, if there is room for a command of it.
@@ -160,7 +160,7 @@ impl Proxy {
         ensures told { Tells (replied_to self.old) (replied_to self.new) (mux_of self.old)
             (mux_of self.new) }
         ensures once { R.calls reader.new ≡ count_after 1 (R.calls reader.old) }
-        ensures all { result.written ≡ Written.All →
+        ensures all { result.written ≡ WriteOutcome.All →
             unsent (mux_of self.new) ≡ [] }
         ensures same_clients { KeepsClients (mux_of self.old) (mux_of self.new) }
         ensures same_terms { terms_of self.new ≡ terms_of self.old }
@@ -169,7 +169,7 @@ impl Proxy {
         let written = if end.is_ok() {
             self.send(writer)
         } else {
-            Written::Some
+            WriteOutcome::Some
         };
         ServerVisit { read, end, written }
     }
@@ -201,7 +201,7 @@ impl Proxy {
     }
 }
 
-/// Returns what was read, by what was taken.
+/// Returns the result of a read, given the result of taking its bytes.
 fn read_result(taken: Result<(), ClientError>) -> Read
     ensures taken { OnOk taken (result ≡ Read.Some) }
     ensures refused { IfErr taken (λ error. result ≡ Read.Closing error) }

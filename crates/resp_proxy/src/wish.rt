@@ -2,11 +2,12 @@
 
 ghost use Rattle.std.specs.Prelude.{◌≡◌, ◌∷◌, ℕ, List, IfNone, IfSome};
 ghost use Rattle.resp_proxy.specs.Wishes.{account_asked, account_lent, asked_by, asked_in, auth_asked, both_asked, hello_asked, name_asked, options_asked, reset_asked, select_asked, version_asked};
+ghost use Rattle.resp_frames.specs.Keys.{IsFirst};
 ghost use Rattle.resp_scan.specs.Whole.{BeginsWith};
 ghost use Rattle.resp_value.specs.Words.{command_of};
 
 use resp_scan::whole;
-use resp_scan::whole::Words;
+use resp_scan::whole::CommandArguments;
 use resp_session::names::is_name;
 use resp_value::limits::Limits;
 use resp_value::version::Version;
@@ -31,17 +32,19 @@ pub enum Wish<'a> {
     Select(&'a [u8]),
     /// RESET: the setting in which every client begins.
     Reset,
-    /// One of these four commands with other words, which only the server judges.
+    /// One of these four commands with other words, which only the server can judge.
     Unclear,
-    /// Another command, which needs a connection of the client's own.
+    /// Another command, which needs a dedicated connection.
     Other,
 }
 
 /// The command at the beginning of some bytes, and its request.
 #[derive(Clone, Copy)]
-pub struct Asking<'a> {
+pub struct WishCommand<'a> {
     /// Its name.
     pub name: &'a [u8],
+    /// The first word after its name, if it has one.
+    pub first: Option<&'a [u8]>,
     /// The request.
     pub wish: Wish<'a>,
     /// The bytes after the command.
@@ -50,23 +53,25 @@ pub struct Asking<'a> {
 
 /// Returns what the command at the beginning of some bytes asks for, or `None` if they do not begin
 /// with a command within the limits.
-pub fn next_wish<'a>(text: &'a [u8], limits: &Limits) -> Option<Asking<'a>>
+pub fn next_wish<'a>(text: &'a [u8], limits: &Limits) -> Option<WishCommand<'a>>
     ensures asked { IfSome result (λ asking. (arguments : List (List ℕ)) ×
         BeginsWith limits.now text.now (command_of (asking.name.now ∷ arguments))
-        asking.rest.now × (asked_in asking.wish ≡ asked_by asking.name.now arguments)) }
+        asking.rest.now × IsFirst arguments asking.first
+        × (asked_in asking.wish ≡ asked_by asking.name.now arguments)) }
     ensures none { IfNone result ((name : List ℕ) (arguments : List (List ℕ)) (rest : List ℕ) →
         BeginsWith limits.now text.now (command_of (name ∷ arguments)) rest → ⊥) }
 {
     let command = whole::command(text, limits)?;
-    Some(Asking {
+    Some(WishCommand {
         name: command.name,
+        first: command.arguments.iter().next(),
         wish: wish_of(command.name, command.arguments),
         rest: command.rest,
     })
 }
 
 /// Returns what the command of this name with these words after it asks for.
-fn wish_of<'a>(name: &[u8], words: Words<'a>) -> Wish<'a>
+fn wish_of<'a>(name: &[u8], words: CommandArguments<'a>) -> Wish<'a>
     ensures { asked_in result ≡ asked_by name.now words.entry }
 {
     if is_name(name, b"hello") {
@@ -83,7 +88,7 @@ fn wish_of<'a>(name: &[u8], words: Words<'a>) -> Wish<'a>
 }
 
 /// Returns what HELLO with these words asks for.
-fn hello(mut words: Words<'_>) -> Wish<'_>
+fn hello(mut words: CommandArguments<'_>) -> Wish<'_>
     ensures { asked_in result ≡ hello_asked words.entry }
 {
     let Some(word) = words.next() else {
@@ -109,7 +114,7 @@ fn version_of(word: &[u8]) -> Option<Version>
 }
 
 /// Returns what HELLO with this version and these words after it asks for.
-fn options(version: Version, mut words: Words<'_>) -> Wish<'_>
+fn options(version: Version, mut words: CommandArguments<'_>) -> Wish<'_>
     ensures { asked_in result ≡ options_asked version words.entry }
 {
     let Some(first) = words.next() else {
@@ -166,7 +171,8 @@ fn with_account<'a>(version: Version, option: &[u8], account: Account<'a>) -> Wi
     }
 }
 
-/// Returns what HELLO with an account and a name asks for, which have these words before them.
+/// Returns what HELLO with an account and a name asks for. `auth` and `setname` are the words
+/// before them.
 fn with_both<'a>(
     version: Version,
     auth: &[u8],
@@ -185,7 +191,7 @@ fn with_both<'a>(
 }
 
 /// Returns what AUTH with these words asks for.
-fn auth(mut words: Words<'_>) -> Wish<'_>
+fn auth(mut words: CommandArguments<'_>) -> Wish<'_>
     ensures { asked_in result ≡ auth_asked words.entry }
 {
     let Some(first) = words.next() else {
@@ -207,7 +213,7 @@ fn auth(mut words: Words<'_>) -> Wish<'_>
 }
 
 /// Returns what SELECT with these words asks for.
-fn select(mut words: Words<'_>) -> Wish<'_>
+fn select(mut words: CommandArguments<'_>) -> Wish<'_>
     ensures { asked_in result ≡ select_asked words.entry }
 {
     match (words.next(), words.next()) {
@@ -217,7 +223,7 @@ fn select(mut words: Words<'_>) -> Wish<'_>
 }
 
 /// Returns what RESET with these words asks for.
-fn reset(mut words: Words<'_>) -> Wish<'_>
+fn reset(mut words: CommandArguments<'_>) -> Wish<'_>
     ensures { asked_in result ≡ reset_asked words.entry }
 {
     match words.next() {

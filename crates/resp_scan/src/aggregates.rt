@@ -3,7 +3,7 @@
 ghost use Rattle.std.specs.Prelude.{◌≡◌, ◌≤◌, ◌<◌, ◌+◌, ◌*◌, ◌^◌, ◌++◌, ◌∷◌, [], length, Some, slice_index};
 
 use crate::frame::{Frame, Shape};
-use crate::machine::{EventTag, Machine, State, Taken};
+use crate::machine::{Advance, EventTag, Machine, State};
 use resp_value::cause::Cause;
 use resp_value::kind::OpenKind;
 
@@ -17,7 +17,7 @@ impl Machine {
 
     /// Opens an aggregate with `number` in its head and `members` members.
     #[inline]
-    pub fn open(&mut self, used: usize, kind: OpenKind, number: u64, members: u64) -> Taken
+    pub(crate) fn open(&mut self, used: usize, kind: OpenKind, number: u64, members: u64) -> Advance
         requires level { length self.old.frames.items < 128 }
         requires frames_need { self.old.frames_need + members * 3 < 2 ^ 64 }
         ensures { out_of result self.new ≡
@@ -45,7 +45,7 @@ impl Machine {
 
     /// Reads the CR after the `?` of a streamed aggregate.
     #[inline]
-    pub fn open_cr(&mut self, piece: &[u8], i: usize, kind: OpenKind) -> Taken
+    pub(crate) fn open_cr(&mut self, piece: &[u8], i: usize, kind: OpenKind) -> Advance
         requires within { i ≤ length piece.now }
         requires level { length self.old.frames.items < 128 }
         requires frames_need { self.old.frames_need < 2 ^ 62 }
@@ -63,7 +63,7 @@ impl Machine {
 
     /// Reads the LF of the head of a streamed aggregate. Then the aggregate is open.
     #[inline]
-    pub fn open_lf(&mut self, piece: &[u8], i: usize, kind: OpenKind) -> Taken
+    pub(crate) fn open_lf(&mut self, piece: &[u8], i: usize, kind: OpenKind) -> Advance
         requires within { i ≤ length piece.now }
         requires level { length self.old.frames.items < 128 }
         requires frames_need { self.old.frames_need < 2 ^ 62 }
@@ -105,7 +105,7 @@ impl Machine {
     /// Reads the `.` that closes a streamed aggregate.
     #[inline]
     #[tactic(auto, using(crate::proofs::Soundness::Places::close_owed))]
-    pub fn close(&mut self, piece: &[u8]) -> Taken
+    pub(crate) fn close(&mut self, piece: &[u8]) -> Advance
         requires some { 0 < length piece.now }
         requires sound { IsSound (at (place_of self.old) AtStart) }
         ensures { slice_index piece.now 0 ≡ 46 →
@@ -121,7 +121,7 @@ impl Machine {
 
     /// Reads the CR after the `.` that closes a streamed aggregate.
     #[inline]
-    pub fn close_cr(&mut self, piece: &[u8], i: usize) -> Taken
+    pub(crate) fn close_cr(&mut self, piece: &[u8], i: usize) -> Advance
         requires { i ≤ length piece.now }
         ensures { Reads self.old self.new AtCloseCr piece.now i result }
     {
@@ -136,7 +136,7 @@ impl Machine {
 
     /// Reads the LF after the `.` of a streamed aggregate. Then the innermost aggregate has ended.
     #[inline]
-    pub fn close_lf(&mut self, piece: &[u8], i: usize) -> Taken
+    pub(crate) fn close_lf(&mut self, piece: &[u8], i: usize) -> Advance
         requires { i ≤ length piece.now }
         ensures { Reads self.old self.new AtCloseLf piece.now i result }
     {

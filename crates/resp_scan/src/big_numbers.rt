@@ -3,7 +3,7 @@
 ghost use Rattle.resp_scan.specs.Machine.Runs.{digit_run};
 ghost use Rattle.std.specs.Prelude.{◌≡◌, ◌≤◌, ◌<◌, ◌+◌, ◌-◌, ◌^◌, length};
 
-use crate::machine::{EventTag, Machine, State, Taken};
+use crate::machine::{Advance, EventTag, Machine, State};
 use resp_value::cause::Cause;
 
 impl Machine {
@@ -14,7 +14,7 @@ impl Machine {
 
     /// Reads after `(`. A sign does not reduce the number of bytes that are needed.
     #[inline]
-    pub fn big_sign(&mut self, piece: &[u8], i: usize) -> Taken
+    pub(crate) fn big_sign(&mut self, piece: &[u8], i: usize) -> Advance
         requires { i ≤ length piece.now }
         ensures { Reads self.old self.new AtBigSign piece.now i result }
     {
@@ -36,7 +36,7 @@ impl Machine {
 
     /// Reads the first digit, after `(` or a sign. A big number has at least one digit.
     #[inline]
-    pub fn big_first(&mut self, piece: &[u8], i: usize, negative: bool) -> Taken
+    pub(crate) fn big_first(&mut self, piece: &[u8], i: usize, negative: bool) -> Advance
         requires { i ≤ length piece.now }
         ensures { Reads self.old self.new (AtBigFirst negative) piece.now i result }
     {
@@ -56,7 +56,7 @@ impl Machine {
 
     /// Reads after one or more zeros.
     #[inline]
-    pub fn big_zeros(&mut self, piece: &[u8], from: usize, negative: bool) -> Taken
+    pub(crate) fn big_zeros(&mut self, piece: &[u8], from: usize, negative: bool) -> Advance
         requires { from ≤ length piece.now }
         ensures { Reads self.old self.new (InBigZeros negative) piece.now from result }
     {
@@ -81,7 +81,7 @@ impl Machine {
 
     /// Reads the first digit other than zero. The text begins, and the digit is due as a part.
     #[inline]
-    fn big_digit(&mut self, i: usize, negative: bool, byte: u8) -> Taken
+    fn big_digit(&mut self, i: usize, negative: bool, byte: u8) -> Advance
         requires { i < 2 ^ 63 }
         ensures { out_of result self.new ≡
             Gave (i + 1) (Text (text.Big negative))
@@ -96,7 +96,7 @@ impl Machine {
 
     /// Reads the LF after a number of zeros alone.
     #[inline]
-    pub fn big_zero_lf(&mut self, piece: &[u8], i: usize) -> Taken
+    pub(crate) fn big_zero_lf(&mut self, piece: &[u8], i: usize) -> Advance
         requires { i ≤ length piece.now }
         ensures { Reads self.old self.new AtBigZeroLf piece.now i result }
     {
@@ -113,7 +113,7 @@ impl Machine {
 
     /// Reads further digits, at the beginning of the piece.
     #[inline]
-    pub fn big(&mut self, piece: &[u8]) -> Taken
+    pub(crate) fn big(&mut self, piece: &[u8]) -> Advance
         requires { self.old.state ≡ State.Big }
         ensures { out_of result self.new ≡
             scan 0 (at (place_of self.old) (InBig self.old.room)) piece.now }

@@ -2,7 +2,7 @@
 
 ghost use Rattle.std.specs.Prelude.{◌≡◌, ◌≤◌, ◌<◌, ◌-◌, length, drop};
 
-use crate::machine::{EventTag, Head, Machine, State, Taken};
+use crate::machine::{Advance, EventTag, Head, Machine, State};
 use resp_value::cause::Cause;
 
 impl Machine {
@@ -13,7 +13,7 @@ impl Machine {
 
     /// Reads the CR after `$?`.
     #[inline]
-    pub fn stream_cr(&mut self, piece: &[u8], i: usize) -> Taken
+    pub(crate) fn stream_cr(&mut self, piece: &[u8], i: usize) -> Advance
         requires { i ≤ length piece.now }
         ensures { Reads self.old self.new AtStreamCr piece.now i result }
     {
@@ -26,10 +26,10 @@ impl Machine {
         self.stream_lf(piece, i + 1)
     }
 
-    /// Reads the LF of the head `$?`. The text begins, and the limit of length is the room for all
+    /// Reads the LF of the head `$?`. The text begins, and the limit `length` is the room for all
     /// its chunks.
     #[inline]
-    pub fn stream_lf(&mut self, piece: &[u8], i: usize) -> Taken
+    pub(crate) fn stream_lf(&mut self, piece: &[u8], i: usize) -> Advance
         requires { i ≤ length piece.now }
         ensures { Reads self.old self.new AtStreamLf piece.now i result }
     {
@@ -44,10 +44,10 @@ impl Machine {
         self.gives(i + 1, EventTag::Bulk)
     }
 
-    /// Reads the beginning of a chunk, in a string for which the limit of length leaves `room`
+    /// Reads the beginning of a chunk, in a string for which the limit `length` leaves `room`
     /// bytes.
     #[inline]
-    pub fn chunk(&mut self, piece: &[u8], i: usize) -> Taken
+    pub(crate) fn chunk(&mut self, piece: &[u8], i: usize) -> Advance
         requires { i ≤ length piece.now }
         ensures { Reads self.old self.new (AtChunk self.old.room) piece.now i result }
     {
@@ -63,7 +63,7 @@ impl Machine {
 
     /// Begins the content after the head of a chunk, or ends the text if the chunk is empty.
     #[inline]
-    pub fn chunk_begins(&mut self, piece: &[u8], i: usize, count: u64, room: u64) -> Taken
+    pub(crate) fn chunk_begins(&mut self, piece: &[u8], i: usize, count: u64, room: u64) -> Advance
         requires within { i ≤ length piece.now }
         requires room { count ≤ room }
         ensures ends { count ≡ 0 → out_of result self.new ≡
@@ -81,7 +81,7 @@ impl Machine {
 
     /// Reads the content of a chunk, of which `count` bytes are still to come.
     #[inline]
-    pub fn chunk_content(&mut self, piece: &[u8], i: usize) -> Taken
+    pub(crate) fn chunk_content(&mut self, piece: &[u8], i: usize) -> Advance
         requires within { i ≤ length piece.now }
         requires some { 0 < self.old.count }
         ensures { Reads self.old self.new (InChunk self.old.room self.old.count)
@@ -112,7 +112,7 @@ impl Machine {
 
     /// Reads the CR after the content of a chunk.
     #[inline]
-    pub fn chunk_cr(&mut self, piece: &[u8]) -> Taken
+    pub(crate) fn chunk_cr(&mut self, piece: &[u8]) -> Advance
         ensures { out_of result self.new ≡
             scan 0 (at (place_of self.old) (AtChunkCr self.old.room)) piece.now }
     {
@@ -127,7 +127,7 @@ impl Machine {
 
     /// Reads the LF after the content of a chunk. The next chunk begins after it.
     #[inline]
-    pub fn chunk_lf(&mut self, piece: &[u8], i: usize) -> Taken
+    pub(crate) fn chunk_lf(&mut self, piece: &[u8], i: usize) -> Advance
         requires { i ≤ length piece.now }
         ensures { Reads self.old self.new (AtChunkLf self.old.room) piece.now i result }
     {

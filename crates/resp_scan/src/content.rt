@@ -2,7 +2,7 @@
 
 ghost use Rattle.std.specs.Prelude.{◌≡◌, ◌≤◌, ◌<◌, length};
 
-use crate::machine::{EventTag, Machine, State, Taken};
+use crate::machine::{Advance, EventTag, Machine, State};
 use resp_value::cause::Cause;
 
 impl Machine {
@@ -13,7 +13,7 @@ impl Machine {
 
     /// Begins content of `count` bytes.
     #[inline]
-    pub fn content_begins(&mut self, used: usize, count: u64, tag: EventTag) -> Taken
+    pub(crate) fn content_begins(&mut self, used: usize, count: u64, tag: EventTag) -> Advance
         ensures gives { result ≡ record { used = used; tag = tag } }
         ensures format { self.new.format ≡ self.old.format }
         ensures place { place_of self.new ≡ content_at count (place_of self.old) }
@@ -29,7 +29,7 @@ impl Machine {
 
     /// Reads content, at the beginning of the piece.
     #[inline]
-    pub fn content(&mut self, piece: &[u8]) -> Taken
+    pub(crate) fn content(&mut self, piece: &[u8]) -> Advance
         requires { 0 < self.old.count }
         ensures { out_of result self.new ≡
             scan 0 (at (place_of self.old) (InContent self.old.count)) piece.now }
@@ -43,7 +43,7 @@ impl Machine {
 
     /// Reads the CR after counted content.
     #[inline]
-    pub fn content_cr(&mut self, piece: &[u8]) -> Taken
+    pub(crate) fn content_cr(&mut self, piece: &[u8]) -> Advance
         ensures { out_of result self.new ≡ scan 0 (at (place_of self.old) AtContentCr) piece.now }
     {
         if piece.is_empty() {
@@ -57,7 +57,7 @@ impl Machine {
 
     /// Reads the LF after counted content. The text has ended.
     #[inline]
-    pub fn content_lf(&mut self, piece: &[u8], i: usize) -> Taken
+    pub(crate) fn content_lf(&mut self, piece: &[u8], i: usize) -> Advance
         requires { i ≤ length piece.now }
         ensures { Reads self.old self.new AtContentLf piece.now i result }
     {
@@ -73,7 +73,7 @@ impl Machine {
     /// Reads the first byte of the format of a verbatim string. The head counts `count` bytes, with
     /// the format and the colon.
     #[inline]
-    pub fn format_first(&mut self, piece: &[u8], i: usize, count: u64) -> Taken
+    pub(crate) fn format_first(&mut self, piece: &[u8], i: usize, count: u64) -> Advance
         requires within { i ≤ length piece.now }
         requires front { 4 ≤ count }
         ensures { Reads self.old self.new (AtFormat count) piece.now i result }
@@ -87,7 +87,7 @@ impl Machine {
 
     /// Reads the second byte of the format of a verbatim string, after this first byte.
     #[inline]
-    pub fn format_second(&mut self, piece: &[u8], i: usize, first: u8) -> Taken
+    pub(crate) fn format_second(&mut self, piece: &[u8], i: usize, first: u8) -> Advance
         requires within { i ≤ length piece.now }
         requires front { 4 ≤ self.old.count }
         ensures { Reads self.old self.new (AtFormatSecond first self.old.count) piece.now i result }
@@ -101,7 +101,7 @@ impl Machine {
 
     /// Reads the third byte of the format of a verbatim string, after these two.
     #[inline]
-    pub fn format_third(&mut self, piece: &[u8], i: usize, first: u8, second: u8) -> Taken
+    pub(crate) fn format_third(&mut self, piece: &[u8], i: usize, first: u8, second: u8) -> Advance
         requires within { i ≤ length piece.now }
         requires front { 4 ≤ self.old.count }
         ensures { Reads self.old self.new (AtFormatThird first second self.old.count)
@@ -117,7 +117,7 @@ impl Machine {
     /// Reads the `:` after this format. The text begins, and has four bytes fewer than the head
     /// counts.
     #[inline]
-    pub fn format_colon(&mut self, piece: &[u8], i: usize, format: [u8; 3]) -> Taken
+    pub(crate) fn format_colon(&mut self, piece: &[u8], i: usize, format: [u8; 3]) -> Advance
         requires within { i ≤ length piece.now }
         requires front { 4 ≤ self.old.count }
         ensures { Reads self.old self.new (AtFormatColon format self.old.count) piece.now i result }

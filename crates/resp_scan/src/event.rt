@@ -99,7 +99,7 @@ pub enum ScanError {
     },
 }
 
-/// The error of a change of version inside a value or after a fault.
+/// The error of changing the version inside a value or after a fault.
 #[derive(Clone, Copy, Debug, PartialEq, Eq, Error)]
 #[error("the version cannot change inside a value or after an error")]
 pub struct Busy;

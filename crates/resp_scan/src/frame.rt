@@ -4,7 +4,7 @@ use resp_value::kind::OpenKind;
 
 /// An open aggregate.
 #[derive(Clone, Copy)]
-pub struct Frame {
+pub(crate) struct Frame {
     /// Its kind.
     pub kind: OpenKind,
     /// The members that it counts.
@@ -14,7 +14,7 @@ pub struct Frame {
 /// The number of members of an open aggregate. The keys and values of a map are its members. The
 /// keys and values of an attribute and the value that it annotates are its members.
 #[derive(Clone, Copy)]
-pub enum Shape {
+pub(crate) enum Shape {
     /// The number of members that have not begun.
     Left(u64),
     /// The number of members of a streamed aggregate that have begun.

@@ -4,7 +4,7 @@ ghost use Rattle.resp_scan.specs.Machine.Heads.{head_needed, streamed_kind, may_
 ghost use Rattle.resp_scan.specs.Machine.Moves.{is_digit};
 ghost use Rattle.std.specs.Prelude.{◌≡◌, ◌≤◌, ◌<◌, ◌+◌, ◌^◌, length, IfNone, true, slice_index};
 
-use crate::machine::{EventTag, Head, Machine, State, Taken};
+use crate::machine::{Advance, EventTag, Head, Machine, State};
 use crate::needed::needed_after;
 use resp_value::cause::Cause;
 use resp_value::kind::OpenKind;
@@ -23,7 +23,7 @@ impl Machine {
 
     /// Reads after `$`: a number, `-1` for null, or `?` for a streamed string.
     #[inline(always)]
-    pub fn bulk_head(&mut self, piece: &[u8], i: usize) -> Taken
+    pub(crate) fn bulk_head(&mut self, piece: &[u8], i: usize) -> Advance
         requires { i ≤ length piece.now }
         ensures { Reads self.old self.new AtBulkHead piece.now i result }
     {
@@ -46,7 +46,7 @@ impl Machine {
 
     /// Reads after `*`: a number, `-1` for null, or `?` for a streamed array.
     #[inline(never)]
-    pub fn array_head(&mut self, piece: &[u8], i: usize) -> Taken
+    pub(crate) fn array_head(&mut self, piece: &[u8], i: usize) -> Advance
         requires { i ≤ length piece.now }
         ensures { Reads self.old self.new AtArrayHead piece.now i result }
     {
@@ -71,8 +71,8 @@ impl Machine {
         self.head_first(piece, i, Head::Array)
     }
 
-    /// Returns the cause of rejecting this byte after the `*` of an array that exceeds the limit of
-    /// depth.
+    /// Returns the cause of rejecting this byte after the `*` of an array that exceeds the limit
+    /// `depth`.
     #[inline]
     fn full_cause(&self, byte: u8) -> Cause
         ensures { result ≡ full_cause (place_of self.now) byte }
@@ -136,7 +136,7 @@ impl Machine {
 
     /// Reads the first digit of a head, or the `?` of a streamed aggregate.
     #[inline(always)]
-    pub fn head_first(&mut self, piece: &[u8], i: usize, head: Head) -> Taken
+    pub(crate) fn head_first(&mut self, piece: &[u8], i: usize, head: Head) -> Advance
         requires within { i ≤ length piece.now }
         requires level { HasFrame (place_of self.old) head }
         ensures { Reads self.old self.new (AtHead head) piece.now i result }
@@ -164,7 +164,7 @@ impl Machine {
     /// Reads a head from its first digit. All digits in the piece are read first and then checked
     /// together.
     #[inline(always)]
-    fn head_digits(&mut self, piece: &[u8], i: usize, head: Head) -> Taken
+    fn head_digits(&mut self, piece: &[u8], i: usize, head: Head) -> Advance
         requires within { i < length piece.now }
         requires digit { is_digit (slice_index piece.now i) ≡ true }
         requires level { HasFrame (place_of self.old) head }
@@ -188,11 +188,11 @@ impl Machine {
         self.head_by_digits(piece, i, head)
     }
 
-    /// As `head_digits`, digit by digit. It is needed if the digits continue in the next piece or
+    /// Like `head_digits`, digit by digit. It is needed if the digits continue in the next piece or
     /// one of them may be rejected.
     #[cold]
     #[inline(never)]
-    fn head_by_digits(&mut self, piece: &[u8], i: usize, head: Head) -> Taken
+    fn head_by_digits(&mut self, piece: &[u8], i: usize, head: Head) -> Advance
         requires within { i < length piece.now }
         requires digit { is_digit (slice_index piece.now i) ≡ true }
         requires level { HasFrame (place_of self.old) head }
@@ -207,7 +207,7 @@ impl Machine {
 
     /// Reads after a digit of a head, digit by digit.
     #[inline(never)]
-    pub fn head_more(&mut self, piece: &[u8], from: usize, head: Head, first: u64) -> Taken
+    pub(crate) fn head_more(&mut self, piece: &[u8], from: usize, head: Head, first: u64) -> Advance
         requires within { from ≤ length piece.now }
         requires fits { first ≤ 2 ^ 40 }
         requires room { IsWithinRoom head first }
@@ -268,7 +268,7 @@ impl Machine {
 
     /// Reads the LF of a head with this number. A string, a chunk or an aggregate begins after it.
     #[inline(always)]
-    pub fn head_lf(&mut self, piece: &[u8], i: usize, head: Head, number: u64) -> Taken
+    pub(crate) fn head_lf(&mut self, piece: &[u8], i: usize, head: Head, number: u64) -> Advance
         requires within { i ≤ length piece.now }
         requires fits { number ≤ 2 ^ 40 }
         requires room { IsWithinRoom head number }

@@ -4,7 +4,7 @@ ghost use Rattle.std.specs.Prelude.{◌≡◌, ◌≤◌, length};
 ghost use Rattle.resp_scan.specs.Machine.Magnitudes.{greatest_magnitude};
 ghost use Rattle.resp_scan.specs.Machine.Moves.{with_sign};
 
-use crate::machine::{EventTag, Machine, State, Taken};
+use crate::machine::{Advance, EventTag, Machine, State};
 use resp_value::cause::Cause;
 
 impl Machine {
@@ -13,7 +13,7 @@ impl Machine {
 
     /// Reads after `:`. A sign does not reduce the number of bytes that are needed.
     #[inline]
-    pub fn int_sign(&mut self, piece: &[u8], i: usize) -> Taken
+    pub(crate) fn int_sign(&mut self, piece: &[u8], i: usize) -> Advance
         requires { i ≤ length piece.now }
         ensures { Reads self.old self.new AtIntSign piece.now i result }
     {
@@ -32,7 +32,7 @@ impl Machine {
 
     /// Reads after a sign. It is not inlined, since few integers have a sign.
     #[inline(never)]
-    pub fn int_signed(&mut self, piece: &[u8], i: usize, negative: bool) -> Taken
+    pub(crate) fn int_signed(&mut self, piece: &[u8], i: usize, negative: bool) -> Advance
         requires { i ≤ length piece.now }
         ensures { Reads self.old self.new (AtIntFirst negative) piece.now i result }
     {
@@ -41,7 +41,7 @@ impl Machine {
 
     /// Reads the first digit, after `:` or a sign. An integer has at least one digit.
     #[inline(always)]
-    pub fn int_first(&mut self, piece: &[u8], i: usize, negative: bool) -> Taken
+    pub(crate) fn int_first(&mut self, piece: &[u8], i: usize, negative: bool) -> Advance
         requires { i ≤ length piece.now }
         ensures { Reads self.old self.new (AtIntFirst negative) piece.now i result }
     {
@@ -57,7 +57,13 @@ impl Machine {
 
     /// Reads after a digit. All digits in the piece are read first and then checked together.
     #[inline(always)]
-    pub fn int_more(&mut self, piece: &[u8], from: usize, negative: bool, first: u64) -> Taken
+    pub(crate) fn int_more(
+        &mut self,
+        piece: &[u8],
+        from: usize,
+        negative: bool,
+        first: u64,
+    ) -> Advance
         requires within { from ≤ length piece.now }
         requires fits { first ≤ greatest_magnitude negative }
         ensures { Reads self.old self.new (InInt negative first) piece.now from result }
@@ -79,11 +85,17 @@ impl Machine {
         self.int_by_digits(piece, from, negative, first)
     }
 
-    /// As `int_more`, digit by digit. It is needed if the digits continue in the next piece or one
-    /// of them may be rejected.
+    /// Like `int_more`, digit by digit. It is needed if the digits continue in the next piece or
+    /// one of them may be rejected.
     #[cold]
     #[inline(never)]
-    pub fn int_by_digits(&mut self, piece: &[u8], from: usize, negative: bool, first: u64) -> Taken
+    pub(crate) fn int_by_digits(
+        &mut self,
+        piece: &[u8],
+        from: usize,
+        negative: bool,
+        first: u64,
+    ) -> Advance
         requires within { from ≤ length piece.now }
         requires fits { first ≤ greatest_magnitude negative }
         ensures { Reads self.old self.new (InInt negative first) piece.now from result }
@@ -117,7 +129,13 @@ impl Machine {
 
     /// Reads the LF of an integer of this sign and magnitude, and gives the integer.
     #[inline]
-    pub fn int_lf(&mut self, piece: &[u8], i: usize, negative: bool, magnitude: u64) -> Taken
+    pub(crate) fn int_lf(
+        &mut self,
+        piece: &[u8],
+        i: usize,
+        negative: bool,
+        magnitude: u64,
+    ) -> Advance
         requires within { i ≤ length piece.now }
         requires fits { magnitude ≤ greatest_magnitude negative }
         ensures { Reads self.old self.new (AtIntLf negative magnitude) piece.now i result }

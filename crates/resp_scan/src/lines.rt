@@ -3,7 +3,7 @@
 ghost use Rattle.resp_scan.specs.Machine.Runs.{plain_run, run_to};
 ghost use Rattle.std.specs.Prelude.{◌≡◌, ◌≤◌, length};
 
-use crate::machine::{EventTag, Machine, State, Taken};
+use crate::machine::{Advance, EventTag, Machine, State};
 use memchr::memchr;
 use resp_value::cause::Cause;
 
@@ -14,7 +14,7 @@ impl Machine {
 
     /// Reads the content of a line, at the beginning of the piece.
     #[inline]
-    pub fn line(&mut self, piece: &[u8]) -> Taken
+    pub(crate) fn line(&mut self, piece: &[u8]) -> Advance
         requires { self.old.state ≡ State.Line }
         ensures { out_of result self.new ≡
             scan 0 (at (place_of self.old) (InLine self.old.room)) piece.now }
@@ -42,7 +42,7 @@ impl Machine {
 
     /// Reads the LF of a line, or of a big number other than zero.
     #[inline]
-    pub fn line_lf(&mut self, piece: &[u8], i: usize) -> Taken
+    pub(crate) fn line_lf(&mut self, piece: &[u8], i: usize) -> Advance
         requires { i ≤ length piece.now }
         ensures { Reads self.old self.new AtLineLf piece.now i result }
     {
@@ -59,7 +59,7 @@ impl Machine {
 /// Returns the number of bytes before the first CR or LF. The first few bytes are checked one by
 /// one, the others with vector instructions.
 #[inline]
-pub fn line_run(s: &[u8]) -> usize
+pub(crate) fn line_run(s: &[u8]) -> usize
     ensures run { result ≡ plain_run s.now }
     ensures within { result ≤ length s.now }
 {
@@ -74,7 +74,8 @@ pub fn line_run(s: &[u8]) -> usize
     far_run(s)
 }
 
-/// As `line_run`, with vector instructions alone: searches for a CR, and then for an LF before it.
+/// Like `line_run`, with vector instructions alone: searches for a CR, and then for an LF before
+/// it.
 #[inline(never)]
 fn far_run(s: &[u8]) -> usize
     ensures run { result ≡ plain_run s.now }

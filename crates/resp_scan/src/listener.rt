@@ -13,13 +13,13 @@ use resp_value::kind::OpenKind;
 /// A receiver of the events of a value, in order. Each call returns whether to continue. If it
 /// returns false, the scanner stops for good.
 ///
-/// The ghost members state what a listener knows of the events, so that it does not have to store
-/// them. For example, a decoder states that it holds their values, a counter that it has their
-/// number, and a writer that their text was written after its earlier contents.
+/// The ghost members state what a listener knows about the events, so that it does not have to
+/// store them. For example, a decoder states that it holds their values, a counter that it has
+/// their number, and a writer that their text was written after its earlier contents.
 ///
 /// # Examples
 ///
-/// A listener that counts integers and states nothing, from
+/// A listener that counts integers and makes no promise, from
 /// [samples](../../samples/src/scanning.rt). The functions for the other events return true.
 ///
 /// ```rust
@@ -93,8 +93,8 @@ pub trait Listener {
         ensures { Hears (has_heard self.old) (has_heard self.new) (has_stopped self.new)
             (e.Close ∷ []) result };
 
-    /// A simple string, a simple error, a double or a counted bulk string that lies completely in
-    /// the piece.
+    /// A simple string, a simple error, a double or a counted bulk string that is completely in the
+    /// piece.
     ///
     /// The scanner may deliver a complete text in this one call, but is not required to. It may
     /// call [`Listener::text`], [`Listener::part`] and [`Listener::text_end`] instead, as the

@@ -2,7 +2,7 @@
 
 ghost use Rattle.std.specs.Prelude.{◌≤◌, length};
 
-use crate::machine::{EventTag, Machine, State, Taken};
+use crate::machine::{Advance, EventTag, Machine, State};
 use resp_value::cause::Cause;
 
 impl Machine {
@@ -11,7 +11,7 @@ impl Machine {
 
     /// Reads the `1` after `$-` or `*-`.
     #[inline]
-    pub fn null_one(&mut self, piece: &[u8], i: usize) -> Taken
+    pub(crate) fn null_one(&mut self, piece: &[u8], i: usize) -> Advance
         requires { i ≤ length piece.now }
         ensures { Reads self.old self.new AtNullOne piece.now i result }
     {
@@ -26,7 +26,7 @@ impl Machine {
 
     /// Reads the CR after `_`, `$-1` or `*-1`.
     #[inline]
-    pub fn null_cr(&mut self, piece: &[u8], i: usize) -> Taken
+    pub(crate) fn null_cr(&mut self, piece: &[u8], i: usize) -> Advance
         requires { i ≤ length piece.now }
         ensures { Reads self.old self.new AtNullCr piece.now i result }
     {
@@ -41,7 +41,7 @@ impl Machine {
 
     /// Reads the LF of a null, and gives the null.
     #[inline]
-    pub fn null_lf(&mut self, piece: &[u8], i: usize) -> Taken
+    pub(crate) fn null_lf(&mut self, piece: &[u8], i: usize) -> Advance
         requires { i ≤ length piece.now }
         ensures { Reads self.old self.new AtNullLf piece.now i result }
     {
@@ -56,7 +56,7 @@ impl Machine {
 
     /// Reads after `#`.
     #[inline]
-    pub fn bool(&mut self, piece: &[u8], i: usize) -> Taken
+    pub(crate) fn bool(&mut self, piece: &[u8], i: usize) -> Advance
         requires { i ≤ length piece.now }
         ensures { Reads self.old self.new AtBool piece.now i result }
     {
@@ -72,7 +72,7 @@ impl Machine {
 
     /// Reads the CR after `#t` or `#f`.
     #[inline]
-    pub fn bool_cr(&mut self, piece: &[u8], i: usize, truth: bool) -> Taken
+    pub(crate) fn bool_cr(&mut self, piece: &[u8], i: usize, truth: bool) -> Advance
         requires { i ≤ length piece.now }
         ensures { Reads self.old self.new (AtBoolCr truth) piece.now i result }
     {
@@ -88,7 +88,7 @@ impl Machine {
 
     /// Reads the LF of a boolean, and gives the boolean.
     #[inline]
-    pub fn bool_lf(&mut self, piece: &[u8], i: usize, truth: bool) -> Taken
+    pub(crate) fn bool_lf(&mut self, piece: &[u8], i: usize, truth: bool) -> Advance
         requires { i ≤ length piece.now }
         ensures { Reads self.old self.new (AtBoolLf truth) piece.now i result }
     {

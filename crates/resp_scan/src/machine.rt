@@ -15,11 +15,11 @@ use resp_value::version::Version;
 
 /// What the number in a head counts.
 #[derive(Clone, Copy)]
-pub enum Head {
+pub(crate) enum Head {
     Bulk,
     BulkError,
     Verbatim,
-    /// A chunk of a streamed string, and the number of bytes that the limit of length leaves.
+    /// A chunk of a streamed string, and the number of bytes that the limit `length` leaves.
     Chunk { room: u64 },
     Array,
     Set,
@@ -30,7 +30,7 @@ pub enum Head {
 
 /// The tokens. A token decides which bytes may come next.
 #[derive(Clone, Copy)]
-pub enum State {
+pub(crate) enum State {
     /// Before a value's first byte, or before the close of a streamed aggregate.
     Start,
     /// After a value or the head of an aggregate. A close or the end is due, or the next member may
@@ -84,7 +84,7 @@ pub enum State {
 
 /// The event after the bytes that were read. The data of the event is stored in the machine.
 #[derive(Clone, Copy)]
-pub enum EventTag {
+pub(crate) enum EventTag {
     /// The piece has ended.
     More,
     Failed,
@@ -113,14 +113,14 @@ pub enum EventTag {
 
 /// The number of bytes read, and the event after them.
 #[derive(Clone, Copy)]
-pub struct Taken {
+pub(crate) struct Advance {
     pub used: usize,
     pub tag: EventTag,
 }
 
 /// The state between two bytes. The fields from `cause` on have a meaning only in some states.
 #[derive(Drop)]
-pub struct Machine {
+pub(crate) struct Machine {
     pub version: Version,
     pub limits: Limits,
     pub frames: ArrayVec<Frame, 128>,
@@ -141,7 +141,7 @@ pub struct Machine {
     pub big_negative: bool,
     /// The value of a head's digits so far, or the number of content bytes still to come.
     pub count: u64,
-    /// The number of bytes that the limit of length leaves for a line, for the digits of a big
+    /// The number of bytes that the limit `length` leaves for a line, for the digits of a big
     /// number or for a streamed string.
     pub room: u64,
     pub digit: u8,
@@ -159,12 +159,12 @@ impl Machine {
 
     /// Ends the piece in this state.
     #[inline]
-    pub fn rest(&mut self, state: State, piece: &[u8]) -> Taken
+    pub(crate) fn rest(&mut self, state: State, piece: &[u8]) -> Advance
         ensures { out_of result self.new ≡
             More (length piece.now) (place_of (record self.old { state = state })) }
     {
         self.state = state;
-        Taken {
+        Advance {
             used: piece.len(),
             tag: EventTag::More,
         }
@@ -172,30 +172,30 @@ impl Machine {
 
     /// Returns this event after `used` bytes of the piece.
     #[inline]
-    pub fn gives(&self, used: usize, tag: EventTag) -> Taken
+    pub(crate) fn gives(&self, used: usize, tag: EventTag) -> Advance
         ensures { result ≡ record { used = used; tag = tag } }
     {
-        Taken { used, tag }
+        Advance { used, tag }
     }
 
     /// Rejects the byte after `used` bytes with this cause. Every later byte is rejected too.
     #[cold]
     #[inline(never)]
-    pub fn fail(&mut self, used: usize, cause: Cause) -> Taken
+    pub(crate) fn fail(&mut self, used: usize, cause: Cause) -> Advance
         ensures { out_of result self.new ≡ Bad used cause (at (place_of self.old) (Dead cause)) }
     {
         self.state = State::Failed;
         self.cause = cause;
-        Taken {
+        Advance {
             used,
             tag: EventTag::Failed,
         }
     }
 
-    /// Returns the number of bytes that the limit of total leaves for the value, after the bytes
+    /// Returns the number of bytes that the limit `total` leaves for the value, after the bytes
     /// read before this piece and those that close the open aggregates.
     #[inline]
-    pub fn total_room(&self) -> u64
+    pub(crate) fn total_room(&self) -> u64
         ensures few { result ≤ 2 ^ 40 }
         ensures room { result ≡ total_room (place_of self.now) }
         ensures frames_need { 0 < result → self.now.frames_need + result ≤ 2 ^ 40 }
@@ -206,10 +206,10 @@ impl Machine {
             .saturating_sub(self.frames_need)
     }
 
-    /// Returns whether the limit of total leaves room for `used` bytes of this piece and `needed`
+    /// Returns whether the limit `total` leaves room for `used` bytes of this piece and `needed`
     /// bytes after them.
     #[inline]
-    pub fn has_total_room(&self, used: usize, needed: u64) -> bool
+    pub(crate) fn has_total_room(&self, used: usize, needed: u64) -> bool
         requires index { used ≤ 2 ^ 63 }
         requires needed { needed < 2 ^ 62 }
         ensures few { result ≡ true → needed ≤ 2 ^ 40 }
@@ -219,10 +219,10 @@ impl Machine {
         used as u64 + needed <= self.total_room()
     }
 
-    /// Returns `Total` unless the limit of total leaves room for `used` bytes of this piece and
+    /// Returns `Total` unless the limit `total` leaves room for `used` bytes of this piece and
     /// `needed` bytes after them.
     #[inline]
-    pub fn over_total(&self, used: usize, needed: u64) -> Option<Cause>
+    pub(crate) fn over_total(&self, used: usize, needed: u64) -> Option<Cause>
         requires index { used ≤ 2 ^ 63 }
         requires needed { needed < 2 ^ 62 }
         ensures few { IfNone result (needed ≤ 2 ^ 40) }
@@ -236,18 +236,18 @@ impl Machine {
         }
     }
 
-    /// Returns the number of bytes that the limits of length and total leave for a text whose line
-    /// end has not come.
+    /// Returns the number of bytes that the limits `length` and `total` leave for a text whose line
+    /// end has not arrived.
     #[inline]
-    pub fn text_room(&self) -> u64
+    pub(crate) fn text_room(&self) -> u64
         ensures { result ≡ min self.now.room (total_room (place_of self.now) - 2) }
     {
         self.room.min(self.total_room().saturating_sub(2))
     }
 
-    /// Returns whether the limit of depth allows no further aggregate to open.
+    /// Returns whether the limit `depth` allows no further aggregate to open.
     #[inline]
-    pub fn is_full(&self) -> bool
+    pub(crate) fn is_full(&self) -> bool
         ensures full { result ≡ is_full (place_of self.now) }
         ensures room { result ≡ false → length self.now.frames.items < 128 }
     {
@@ -255,9 +255,9 @@ impl Machine {
     }
 
     /// Begins a member with the first byte of this piece. The member needs `needed` bytes after
-    /// that byte. Returns the cause if the limit of items or total rejects it.
+    /// that byte. Returns the cause if the limit `items` or `total` rejects it.
     #[inline]
-    pub fn begin(&mut self, needed: u64) -> Option<Cause>
+    pub(crate) fn begin(&mut self, needed: u64) -> Option<Cause>
         requires needed { needed < 2 ^ 10 }
         requires sound { IsSound (at (place_of self.old) AtStart) }
         ensures cause { result ≡ begin_cause (at (place_of self.old) AtStart) needed }
@@ -274,8 +274,8 @@ impl Machine {
         }
     }
 
-    /// Begins a member of this aggregate, the innermost. Returns the cause if the limit of items or
-    /// total rejects it.
+    /// Begins a member of this aggregate, the innermost. Returns the cause if the limit `items` or
+    /// `total` rejects it.
     #[inline]
     fn begin_in(&mut self, frame: Frame, needed: u64) -> Option<Cause>
         requires needed { needed < 2 ^ 10 }
@@ -305,7 +305,7 @@ impl Machine {
     }
 
     /// Sets the shape of the innermost aggregate, and `frames_need` as the bytes that the open
-    /// aggregates need. Returns the cause if the limit of total rejects that.
+    /// aggregates need. Returns the cause if the limit `total` rejects that.
     #[inline(always)]
     fn begin_as(&mut self, shape: Shape, frames_need: u64, needed: u64) -> Option<Cause>
         requires needed { needed < 2 ^ 10 }
@@ -328,7 +328,7 @@ impl Machine {
 
     /// Sets the shape of the innermost open aggregate.
     #[inline]
-    pub fn set_shape(&mut self, shape: Shape)
+    pub(crate) fn set_shape(&mut self, shape: Shape)
         ensures items { reverse self.new.frames.items ≡
             with_shape shape (reverse self.old.frames.items) }
         ensures rest { self.new ≡ record self.old { frames = self.new.frames } }
@@ -341,12 +341,12 @@ impl Machine {
 
     /// Goes to the state after a value or the head of an aggregate, with this event.
     #[inline]
-    pub fn at_boundary(&mut self, used: usize, tag: EventTag) -> Taken
+    pub(crate) fn at_boundary(&mut self, used: usize, tag: EventTag) -> Advance
         ensures gives { result ≡ record { used = used; tag = tag } }
         ensures state { self.new ≡ record self.old { state = State.Boundary } }
     {
         self.state = State::Boundary;
-        Taken { used, tag }
+        Advance { used, tag }
     }
 }
 

@@ -12,7 +12,7 @@ impl Machine {
     /// Returns the least number of bytes that complete the current value: those of the token and
     /// those of the open aggregates.
     #[inline]
-    pub fn needed(&self) -> u64
+    pub(crate) fn needed(&self) -> u64
         requires { IsSound (place_of self.now) }
         ensures { result ≡ needed (place_of self.now) }
     {
@@ -57,7 +57,7 @@ impl Machine {
 /// Returns the least number of bytes that complete a value after its type byte, or a streamed
 /// string after the `;` of a chunk.
 #[inline]
-pub fn first_needed(head: Head) -> u64
+pub(crate) fn first_needed(head: Head) -> u64
     ensures few { result < 10 }
     ensures needed { result ≡ first_needed head }
 {
@@ -73,7 +73,7 @@ pub fn first_needed(head: Head) -> u64
 /// Returns the least number of bytes that complete a value, or a streamed string, after the digits
 /// of this number in a head.
 #[inline]
-pub fn needed_after(head: Head, number: u64) -> u64
+pub(crate) fn needed_after(head: Head, number: u64) -> u64
     requires { number < 2 ^ 44 }
     ensures more { number ≤ result }
     ensures few { result < 2 ^ 48 }

@@ -6,8 +6,8 @@ use resp_value::kind::OpenKind;
 
 /// Ignores all events, and never stops.
 ///
-/// [`Scanner::scan`](crate::scanner::Scanner::scan) is compiled for each listener, so each number has a
-/// loop of its own. A caller who is alone with a number has a loop that the compiler inlines.
+/// [`Scanner::scan`](crate::scanner::Scanner::scan) is compiled for each listener, so each number
+/// has its own loop. If a number has only one caller, the compiler inlines its loop.
 #[derive(Clone, Copy)]
 pub struct Nobody<const LOOP: usize>;
 

@@ -74,7 +74,7 @@ pub(crate) trait Receiver {
     fn take_fault(&mut self, fault: Fault) -> Self::Answer
         ensures { takes self.old self.new result (Err fault) };
 
-    /// Receives a text that lies completely in the piece, for which `used` bytes were used.
+    /// Receives a text that is completely in the piece, for which `used` bytes were used.
     fn take_whole_text(&mut self, used: usize, kind: TextKind, bytes: &[u8]) -> Self::Answer
         requires { IsTextOf kind bytes.now }
         ensures { takes_text self.old self.new result used kind bytes.now };

@@ -72,7 +72,7 @@ impl Scanner {
     ghost use Rattle.resp_value.specs.Spellings.{IsViable};
     ghost use Rattle.resp_scan.specs.Machine.Tokens.{AtStart};
 
-    /// Makes a scanner of this version with these limits, before the first value.
+    /// Creates a scanner of this version with these limits, before the first value.
     pub fn new(version: Version, limits: &Limits) -> Scanner
         ensures nothing_read { HasRead result [] [] }
         ensures rules { rules_of result ≡ rules_under version limits.now }
@@ -169,7 +169,7 @@ impl Scanner {
         self.machine.step(piece)
     }
 
-    /// Makes a step as [`Scanner::step`] does, and passes its event to the slot. If a text lies
+    /// Makes a step as [`Scanner::step`] does, and passes its event to the slot. If a text is
     /// completely in the piece, from its type byte to its end, the slot receives its bytes and its
     /// end in one call. Returns the number of bytes used, or `None` if the whole piece was read
     /// without an event.
@@ -209,8 +209,8 @@ impl Scanner {
     }
 
     /// Reads the piece up to the end of a value and passes the events to the listener, in the order
-    /// of [`Scanner::step`]. If a text lies completely in the piece, its events may be passed in
-    /// one call, [`Listener::whole_text`].
+    /// of [`Scanner::step`]. If a text is completely in the piece, its events may be passed in one
+    /// call, [`Listener::whole_text`].
     ///
     /// # Errors
     ///
@@ -414,8 +414,8 @@ impl Scanner {
         self.machine.taken
     }
 
-    /// Returns the least number of bytes that complete the current value, ignoring the limit of
-    /// total: 3 between values, and 0 if all bytes were read and only events are left. The number
+    /// Returns the least number of bytes that complete the current value, ignoring the limit
+    /// `total`: 3 between values, and 0 if all bytes were read and only events are left. The number
     /// has no meaning after a fault.
     pub fn needed(&self) -> u64
         ensures least_completion { WhereRead self.now (λ front given.

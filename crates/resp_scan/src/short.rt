@@ -1,4 +1,4 @@
-//! Fast paths for short bulk strings, simple strings and integers that lie completely at the
+//! Fast paths for short bulk strings, simple strings and integers that are completely at the
 //! beginning of a piece.
 
 ghost use Rattle.std.specs.Prelude.{IfNone, IfSome, ◌+◌, ◌-◌, ◌<◌, ◌^◌, ◌≡◌, ◌≤◌, drop, false, get_or, length, min, take, true};
@@ -11,7 +11,7 @@ ghost use Rattle.resp_scan.specs.Machine.Turns.{EndsAt, HasShortNumber, LeavesCo
 ghost use Rattle.resp_scan.specs.declared.event.TextKind.TheVariants as text;
 
 use crate::lines::line_run;
-use crate::machine::{EventTag, Machine, State, Taken};
+use crate::machine::{Advance, EventTag, Machine, State};
 use crate::turn::{beyond, ends_at};
 
 /// The greatest number of bytes of a line that takes the fast path.
@@ -26,9 +26,9 @@ impl Machine {
     ghost use Rattle.resp_scan.specs.Machine.Sound.{IsSound};
     ghost use Rattle.resp_scan.specs.Machine.Tokens.{AtStart};
 
-    /// Begins a short bulk string that lies completely at the beginning of this piece.
+    /// Begins a short bulk string that is completely at the beginning of this piece.
     #[inline(always)]
-    pub fn short_text(&mut self, piece: &[u8]) -> Option<Short>
+    pub(crate) fn short_text(&mut self, piece: &[u8]) -> Option<Short>
         requires { IsSound (at (place_of self.old) AtStart) }
         ensures begun { IfSome result (λ short.
             out_of (record { used = short.head; tag = EventTag.Bulk }) self.new ≡
@@ -52,10 +52,10 @@ impl Machine {
         }
     }
 
-    /// Begins a simple string that lies completely at the beginning of this piece, and returns the
+    /// Begins a simple string that is completely at the beginning of this piece, and returns the
     /// number of bytes before its CR LF.
     #[inline(always)]
-    pub fn short_line(&mut self, piece: &[u8]) -> Option<usize>
+    pub(crate) fn short_line(&mut self, piece: &[u8]) -> Option<usize>
         requires { IsSound (at (place_of self.old) AtStart) }
         ensures begun { IfSome result (λ run.
             out_of (record { used = 1; tag = EventTag.Simple }) self.new ≡
@@ -87,7 +87,7 @@ impl Machine {
 
     /// Reads an integer of few digits and without a sign, if its CR is in this piece.
     #[inline(always)]
-    pub fn short_int(&mut self, piece: &[u8]) -> Option<Taken>
+    pub(crate) fn short_int(&mut self, piece: &[u8]) -> Option<Advance>
         requires { IsSound (at (place_of self.old) AtStart) }
         ensures taken { IfSome result (λ taken. out_of taken self.new ≡
             scan 0 (at (place_of self.old) AtStart) piece.now) }
@@ -106,14 +106,14 @@ impl Machine {
 
 /// The place of the CR after the digits of an integer, and their number.
 #[derive(Clone, Copy)]
-struct Digits {
+struct ShortDigits {
     end: usize,
     magnitude: u64,
 }
 
 /// Returns the digits of an integer after this first one, if they are few and a CR follows.
 #[inline(always)]
-fn few_digits(piece: &[u8], first: u64) -> Option<Digits>
+fn few_digits(piece: &[u8], first: u64) -> Option<ShortDigits>
     requires { first ≤ 9 }
     ensures within { IfSome result (λ digits. (2 ≤ digits.end) × (digits.end < 12) ×
         (digits.end < length piece.now) × (digits.magnitude < 2 ^ 40)) }
@@ -127,7 +127,7 @@ fn few_digits(piece: &[u8], first: u64) -> Option<Digits>
         let byte = piece[end];
         if byte < b'0' || byte > b'9' {
             return match byte {
-                b'\r' => Some(Digits { end, magnitude }),
+                b'\r' => Some(ShortDigits { end, magnitude }),
                 _ => None,
             };
         }
@@ -138,7 +138,7 @@ fn few_digits(piece: &[u8], first: u64) -> Option<Digits>
 
 /// A number of one or two digits after the first byte of a piece, and the index after its CR LF.
 #[derive(Clone, Copy)]
-pub struct Short {
+pub(crate) struct Short {
     /// The index after the CR LF.
     pub head: usize,
     /// The number.
@@ -165,7 +165,7 @@ fn short_head(piece: &[u8]) -> Option<Short>
 
 /// Returns the number of one or two digits after the first byte of a piece, if CR LF follows it.
 #[inline(always)]
-pub fn short_number(piece: &[u8]) -> Option<Short>
+pub(crate) fn short_number(piece: &[u8]) -> Option<Short>
     requires { 5 ≤ length piece.now }
     ensures { IfSome result (λ short. HasShortNumber piece.now short.head short.count) }
 {
@@ -176,7 +176,7 @@ pub fn short_number(piece: &[u8]) -> Option<Short>
     }
 }
 
-/// As `short_number`, for one digit.
+/// Like `short_number`, for one digit.
 #[inline(always)]
 fn one_digit(piece: &[u8]) -> Option<Short>
     requires begins { (5 ≤ length piece.now) × (get_or piece.now 3 0 ≡ 10) }
@@ -191,7 +191,7 @@ fn one_digit(piece: &[u8]) -> Option<Short>
     })
 }
 
-/// As `short_number`, for two digits.
+/// Like `short_number`, for two digits.
 #[inline(always)]
 fn two_digits(piece: &[u8]) -> Option<Short>
     requires begins { (5 ≤ length piece.now) × (get_or piece.now 3 0 ≡ 13) }

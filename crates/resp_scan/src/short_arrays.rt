@@ -1,4 +1,4 @@
-//! Fast path for the head of a short array that lies completely at the beginning of a piece.
+//! Fast path for the head of a short array that is completely at the beginning of a piece.
 
 ghost use Rattle.std.specs.Prelude.{◌≡◌, ◌<◌, ◌≤◌, ◌+◌, ◌*◌, IfSome, Some, drop, false, length};
 ghost use Rattle.resp_scan.specs.Machine.Heads.{after_open};
@@ -7,7 +7,7 @@ ghost use Rattle.resp_scan.specs.Machine.Scan.{Gave, scan};
 ghost use Rattle.resp_scan.specs.Machine.Tokens.{AtArrayHead, Open, Place, at};
 ghost use Rattle.resp_value.specs.declared.kind.OpenKind.TheVariants as kind;
 
-use crate::machine::{Machine, Taken};
+use crate::machine::{Advance, Machine};
 use crate::short::{Short, short_number};
 use resp_value::kind::OpenKind;
 
@@ -16,7 +16,7 @@ impl Machine {
 
     /// Reads after the `*` at the beginning of the piece, as [`Machine::array_head`].
     #[inline(never)]
-    pub fn array_begins(&mut self, piece: &[u8]) -> Taken
+    pub(crate) fn array_begins(&mut self, piece: &[u8]) -> Advance
         requires { 1 ≤ length piece.now }
         ensures { Reads self.old self.new AtArrayHead piece.now 1 result }
     {

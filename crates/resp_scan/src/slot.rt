@@ -19,7 +19,7 @@ pub trait Slot {
     fn event(&mut self, event: Event<'_>)
         ensures { shows self.new event.entry };
 
-    /// Receives a simple string, a simple error, a double or a counted bulk string that lies
+    /// Receives a simple string, a simple error, a double or a counted bulk string that is
     /// completely in the piece. This one call replaces [`Event::Text`], [`Event::Part`] and
     /// [`Event::TextEnd`].
     fn text(&mut self, kind: TextKind, bytes: &[u8])

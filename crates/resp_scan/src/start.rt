@@ -5,7 +5,7 @@ ghost use Rattle.resp_scan.specs.Machine.First.{by_first};
 ghost use Rattle.resp_scan.specs.Machine.Moves as m;
 ghost use Rattle.resp_scan.specs.Machine.Tokens.{Place};
 
-use crate::machine::{EventTag, Head, Machine, State, Taken};
+use crate::machine::{Advance, EventTag, Head, Machine, State};
 use crate::needed::first_needed;
 use resp_value::cause::Cause;
 use resp_value::version::Version;
@@ -23,7 +23,7 @@ impl Machine {
     /// doubles are not allowed, and rejects the forms of version 3 in version 2.
     #[inline(always)]
     #[tactic(auto, using(crate::proofs::Soundness::Starts::first_byte))]
-    pub fn start(&mut self, piece: &[u8]) -> Taken
+    pub(crate) fn start(&mut self, piece: &[u8]) -> Advance
         requires { IsSound (at (place_of self.old) AtStart) }
         ensures { out_of result self.new ≡ scan 0 (at (place_of self.old) AtStart) piece.now }
     {
@@ -60,10 +60,10 @@ impl Machine {
         }
     }
 
-    /// As `start`, but not inlined. It is used everywhere except for the outermost value in a step
-    /// and in the loop, which keeps the code small.
+    /// Like `start`, but not inlined. It is used everywhere except for the outermost value in a
+    /// step and in the loop, which keeps the code small.
     #[inline(never)]
-    pub fn start_apart(&mut self, piece: &[u8]) -> Taken
+    pub(crate) fn start_apart(&mut self, piece: &[u8]) -> Advance
         requires { IsSound (at (place_of self.old) AtStart) }
         ensures { out_of result self.new ≡ scan 0 (at (place_of self.old) AtStart) piece.now }
     {
@@ -72,7 +72,7 @@ impl Machine {
 
     /// Begins a double, unless doubles are not allowed or the version has no doubles.
     #[inline(never)]
-    fn double_begins(&mut self) -> Taken
+    fn double_begins(&mut self) -> Advance
         requires { IsSound (at (place_of self.old) AtStart) }
         ensures { (p : List ℕ) → out_of result self.new ≡
             after_first (m.double_move (at (place_of self.old) AtStart))
@@ -87,11 +87,11 @@ impl Machine {
         }
     }
 
-    /// Begins a simple string, a simple error or a double, unless the limit of items or total
+    /// Begins a simple string, a simple error or a double, unless the limit `items` or `total`
     /// rejects it.
     #[inline]
     #[tactic(auto, using(crate::proofs::Soundness::Starts::lines))]
-    fn line_begins(&mut self, tag: EventTag) -> Taken
+    fn line_begins(&mut self, tag: EventTag) -> Advance
         requires { IsSound (at (place_of self.old) AtStart) }
         ensures simple { (p : List ℕ) → tag ≡ EventTag.Simple →
             out_of result self.new ≡ after_first
@@ -117,7 +117,7 @@ impl Machine {
     /// Begins a form that only version 3 has.
     #[inline]
     #[tactic(auto, using(crate::proofs::Soundness::Starts::answers))]
-    fn start_three(&mut self, piece: &[u8], first: First) -> Taken
+    fn start_three(&mut self, piece: &[u8], first: First) -> Advance
         requires within { 0 < length piece.now }
         requires sound { IsSound (at (place_of self.old) AtStart) }
         ensures { out_of result self.new ≡
@@ -154,7 +154,7 @@ impl Machine {
     /// Begins the head of a string or an aggregate that only version 3 has.
     #[inline(never)]
     #[tactic(auto, using(crate::proofs::Soundness::Starts::answers))]
-    fn head_begins(&mut self, piece: &[u8], head: Head) -> Taken
+    fn head_begins(&mut self, piece: &[u8], head: Head) -> Advance
         requires some { 0 < length piece.now }
         requires level { HasFrame (place_of self.old) head }
         requires sound { IsSound (at (place_of self.old) AtStart) }
@@ -171,7 +171,7 @@ impl Machine {
 
     /// Begins the head of an aggregate, which opens one more level.
     #[inline]
-    fn aggregate_begins(&mut self, piece: &[u8], head: Head) -> Taken
+    fn aggregate_begins(&mut self, piece: &[u8], head: Head) -> Advance
         requires some { 0 < length piece.now }
         requires sound { IsSound (at (place_of self.old) AtStart) }
         ensures { out_of result self.new ≡

@@ -5,7 +5,7 @@ ghost use Rattle.resp_scan.specs.Machine.Moves.{is_digit};
 
 use crate::event::{Event, Fault, Step, TextKind};
 use crate::frame::Shape;
-use crate::machine::{EventTag, Machine, State, Taken};
+use crate::machine::{Advance, EventTag, Machine, State};
 use resp_value::cause::Cause;
 
 /// The ten digits. The first digit of a big number is borrowed from here, because its piece may no
@@ -23,7 +23,7 @@ impl Machine {
     /// may begin.
     #[inline]
     #[tactic(auto, using(crate::proofs::Soundness::Places::sound_member))]
-    pub fn after_value(&mut self, piece: &[u8]) -> Taken
+    pub(crate) fn after_value(&mut self, piece: &[u8]) -> Advance
         requires state { self.old.state ≡ State.Boundary }
         requires sound { IsSound (place_of self.old) }
         ensures { out_of result self.new ≡ out_from (place_of self.old) piece.now }
@@ -47,7 +47,7 @@ impl Machine {
     /// Continues from the token in which the piece begins.
     #[inline(never)]
     #[tactic(auto, using(crate::proofs::Soundness::Places::tokens_fit))]
-    pub fn resume(&mut self, piece: &[u8]) -> Taken
+    pub(crate) fn resume(&mut self, piece: &[u8]) -> Advance
         requires { IsSound (place_of self.old) }
         ensures { out_of result self.new ≡ out_from (place_of self.old) piece.now }
     {
@@ -101,7 +101,7 @@ impl Machine {
 
     /// Gives the first digit of a big number.
     #[inline]
-    fn first_digit(&mut self) -> Taken
+    fn first_digit(&mut self) -> Advance
         requires { self.old.state ≡ State.BigDigit }
         ensures { (piece : List ℕ) → out_of result self.new ≡ out_from (place_of self.old) piece }
     {
@@ -111,7 +111,7 @@ impl Machine {
 
     /// Returns the result of a step whose token gave this.
     #[inline(always)]
-    fn answer<'a>(&mut self, piece: &'a [u8], got: Taken) -> Result<Step<'a>, Fault>
+    fn answer<'a>(&mut self, piece: &'a [u8], got: Advance) -> Result<Step<'a>, Fault>
         requires { (s : Place) × IsSound s × (out_of got self.old ≡ out_from s piece.now) }
         ensures { (s : Place) → IsSound s → out_of got self.old ≡ out_from s piece.now →
             StepAnswers s self.new piece.now result }
@@ -152,7 +152,7 @@ impl Machine {
 
     /// Reads bytes of the piece up to an event or the end of the piece. A rejected byte is final.
     #[inline(always)]
-    pub fn step<'a>(&mut self, piece: &'a [u8]) -> Result<Step<'a>, Fault>
+    pub(crate) fn step<'a>(&mut self, piece: &'a [u8]) -> Result<Step<'a>, Fault>
         requires { IsSound (place_of self.old) }
         ensures { StepAnswers (place_of self.old) self.new piece.now result }
     {
@@ -187,7 +187,7 @@ impl Machine {
 
 /// Returns the bytes from the first index to the second.
 #[inline]
-pub fn run(piece: &[u8], start: usize, used: usize) -> &[u8]
+pub(crate) fn run(piece: &[u8], start: usize, used: usize) -> &[u8]
     requires start { start ≤ used }
     requires within { used ≤ length piece.now }
     ensures { result.now ≡ drop start (take used piece.now) }
@@ -196,7 +196,7 @@ pub fn run(piece: &[u8], start: usize, used: usize) -> &[u8]
 }
 
 /// Returns a constant of one byte, this digit.
-pub fn digit_text(byte: u8) -> &'static [u8]
+pub(crate) fn digit_text(byte: u8) -> &'static [u8]
     requires { is_digit byte ≡ true }
     ensures { result.now ≡ byte ∷ [] }
 {

@@ -15,7 +15,11 @@ impl Machine {
 
     /// Continues from the token in which the piece begins, and passes its event to the slot.
     #[inline(always)]
-    pub fn step_into<S: Slot>(&mut self, piece: &[u8], slot: &mut S) -> Result<Option<usize>, Fault>
+    pub(crate) fn step_into<S: Slot>(
+        &mut self,
+        piece: &[u8],
+        slot: &mut S,
+    ) -> Result<Option<usize>, Fault>
         requires { IsSound (place_of self.old) }
         ensures { FillsSlot (S.shows slot.new) (S.shows_text slot.new) (slot.new ≡ slot.old)
             (place_of self.old) self.new piece.now result }

@@ -1,5 +1,5 @@
 //! One turn of the machine: it continues inside a token or begins a value, up to the next event,
-//! and passes that event to a receiver. A text that lies completely in the piece is passed together
+//! and passes that event to a receiver. A text that is completely in the piece is passed together
 //! with its end.
 
 ghost use Rattle.std.specs.Prelude.{◌≡◌, ◌≤◌, ◌<◌, ◌+◌, ◌-◌, ◌^◌, List, length, IfSome, min, take, drop, ℕ};
@@ -10,7 +10,7 @@ ghost use Rattle.resp_scan.specs.Machine.Turns.{EndsAt, IsLineTag};
 use crate::event::{Fault, TextKind};
 use crate::frame::Shape;
 use crate::lines::line_run;
-use crate::machine::{EventTag, Machine, State, Taken};
+use crate::machine::{Advance, EventTag, Machine, State};
 use crate::receiver::Receiver;
 use crate::step::{digit_text, run};
 
@@ -39,7 +39,7 @@ impl Machine {
 
     /// Continues from the token in which the rest begins, and passes its event.
     #[inline(always)]
-    pub fn advance<R: Receiver>(&mut self, rest: &[u8], receiver: &mut R) -> R::Answer
+    pub(crate) fn advance<R: Receiver>(&mut self, rest: &[u8], receiver: &mut R) -> R::Answer
         requires { IsSound (place_of self.old) }
         ensures { Passes (R.takes receiver.old receiver.new result)
             (R.takes_text receiver.old receiver.new result) (place_of self.old) self.new rest.now }
@@ -112,7 +112,12 @@ impl Machine {
 
     /// Passes the event of a first byte that was read, or a complete text if it ends in this rest.
     #[inline(always)]
-    fn tell_begun<R: Receiver>(&mut self, rest: &[u8], taken: Taken, receiver: &mut R) -> R::Answer
+    fn tell_begun<R: Receiver>(
+        &mut self,
+        rest: &[u8],
+        taken: Advance,
+        receiver: &mut R,
+    ) -> R::Answer
         requires { (s : Place) × IsSound s × (out_of taken self.old ≡ out_from s rest.now) }
         ensures { (s : Place) → IsSound s → out_of taken self.old ≡ out_from s rest.now →
             Passes (R.takes receiver.old receiver.new result)
@@ -129,7 +134,7 @@ impl Machine {
 
     /// Continues inside a token. Counted content, the most common case, is handled without a call.
     #[inline(always)]
-    fn resume_content(&mut self, rest: &[u8]) -> Taken
+    fn resume_content(&mut self, rest: &[u8]) -> Advance
         requires { IsSound (place_of self.old) }
         ensures { out_of result self.new ≡ out_from (place_of self.old) rest.now }
     {
@@ -146,7 +151,7 @@ impl Machine {
     fn tell_line<R: Receiver>(
         &mut self,
         rest: &[u8],
-        taken: Taken,
+        taken: Advance,
         kind: TextKind,
         receiver: &mut R,
     ) -> R::Answer
@@ -168,7 +173,7 @@ impl Machine {
     fn tell_content<R: Receiver>(
         &mut self,
         rest: &[u8],
-        taken: Taken,
+        taken: Advance,
         receiver: &mut R,
     ) -> R::Answer
         requires whole { (s : Place) × IsSound s × (out_of taken self.old ≡ out_from s rest.now) }
@@ -245,7 +250,7 @@ impl Machine {
         ends_at(piece, self.count as usize)
     }
 
-    /// As `whole_content`, for an empty string and for a streamed string.
+    /// Like `whole_content`, for an empty string and for a streamed string.
     #[cold]
     #[inline(never)]
     fn no_content(&self, piece: &[u8]) -> Option<usize>
@@ -261,7 +266,7 @@ impl Machine {
 
     /// Passes the event for the result of a token.
     #[inline(always)]
-    fn tell<R: Receiver>(&mut self, rest: &[u8], taken: Taken, receiver: &mut R) -> R::Answer
+    fn tell<R: Receiver>(&mut self, rest: &[u8], taken: Advance, receiver: &mut R) -> R::Answer
         requires { (s : Place) × IsSound s × (out_of taken self.old ≡ out_from s rest.now) }
         ensures { (s : Place) → IsSound s → out_of taken self.old ≡ out_from s rest.now →
             Passes (R.takes receiver.old receiver.new result)
@@ -318,15 +323,15 @@ fn line_kind(tag: EventTag) -> Option<TextKind>
 
 /// Returns an event of bytes that were already read.
 #[inline(always)]
-fn owed(tag: EventTag) -> Taken
+fn owed(tag: EventTag) -> Advance
     ensures { result ≡ record { used = 0; tag = tag } }
 {
-    Taken { used: 0, tag }
+    Advance { used: 0, tag }
 }
 
 /// Returns the bytes from this index on.
 #[inline]
-pub fn beyond(piece: &[u8], from: usize) -> &[u8]
+pub(crate) fn beyond(piece: &[u8], from: usize) -> &[u8]
     requires { from ≤ length piece.now }
     ensures { result.now ≡ drop from piece.now }
 {
@@ -335,7 +340,7 @@ pub fn beyond(piece: &[u8], from: usize) -> &[u8]
 
 /// Returns this index if CR LF begins at it.
 #[inline]
-pub fn ends_at(piece: &[u8], run: usize) -> Option<usize>
+pub(crate) fn ends_at(piece: &[u8], run: usize) -> Option<usize>
     ensures { IfSome result (λ at. (at ≡ run) × EndsAt piece.now run) }
 {
     if run >= piece.len().saturating_sub(1) {

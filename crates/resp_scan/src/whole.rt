@@ -1,5 +1,5 @@
-//! Recognises what lies completely at the beginning of some bytes: heads, bulk strings and
-//! commands. Nothing is copied, and nothing is allocated.
+//! Recognises heads, bulk strings and commands that are complete at the beginning of some bytes.
+//! Nothing is copied, and nothing is allocated.
 
 ghost use Rattle.std.specs.Prelude.{◌≡◌, ◌+◌, ◌≤◌, ◌<◌, ◌^◌, ◌∷◌, List, ℕ, drop, length, IfNone, IfSome};
 ghost use Rattle.std.specs.Bool.{MatchBool};
@@ -17,7 +17,7 @@ use std::marker::Model;
 
 /// The head of an array or a bulk string, and the bytes after it.
 #[derive(Clone, Copy, Debug)]
-pub struct Head<'a> {
+pub struct WholeHead<'a> {
     /// The number in the head.
     pub number: u64,
     /// The bytes after the head.
@@ -99,7 +99,7 @@ fn head_of(text: &[u8], kind: u8, most: u64) -> Option<Number>
     head_by_digits(text, kind, most)
 }
 
-/// As `head_of`, for any number of digits.
+/// Like `head_of`, for any number of digits.
 #[inline(never)]
 fn head_by_digits(text: &[u8], kind: u8, most: u64) -> Option<Number>
     requires { most < 2 ^ 60 }
@@ -126,9 +126,9 @@ fn head_by_digits(text: &[u8], kind: u8, most: u64) -> Option<Number>
     })
 }
 
-/// As `head_of`, with the bytes after the head.
+/// Like `head_of`, with the bytes after the head.
 #[inline(always)]
-fn head_with_rest(text: &[u8], kind: u8, most: u64) -> Option<Head<'_>>
+fn head_with_rest(text: &[u8], kind: u8, most: u64) -> Option<WholeHead<'_>>
     requires { most < 2 ^ 60 }
     ensures begins { IfSome result (λ head.
         BeginsWithHead text.now kind head.number head.rest.now) }
@@ -137,7 +137,7 @@ fn head_with_rest(text: &[u8], kind: u8, most: u64) -> Option<Head<'_>>
         BeginsWithHead text.now kind n rest → ⊥) }
 {
     let head = head_of(text, kind, most)?;
-    Some(Head {
+    Some(WholeHead {
         number: head.number,
         rest: &text[head.end..],
     })
@@ -145,7 +145,7 @@ fn head_with_rest(text: &[u8], kind: u8, most: u64) -> Option<Head<'_>>
 
 /// A bulk string, and the bytes after it.
 #[derive(Clone, Copy, Debug)]
-pub struct Text<'a> {
+pub struct WholeString<'a> {
     /// The content.
     pub content: &'a [u8],
     /// The bytes after the bulk string.
@@ -155,7 +155,7 @@ pub struct Text<'a> {
 /// Returns the bulk string at the beginning of some bytes, if its content has at most this many
 /// bytes.
 #[inline(always)]
-fn word(text: &[u8], most: u64) -> Option<Text<'_>>
+fn word(text: &[u8], most: u64) -> Option<WholeString<'_>>
     requires { most < 2 ^ 60 }
     ensures begins { IfSome result (λ found.
         BeginsWithWord most text.now found.content.now found.rest.now) }
@@ -172,7 +172,7 @@ fn word(text: &[u8], most: u64) -> Option<Text<'_>>
         return None;
     }
     let (content, after) = text[head.end..].split_at(length);
-    Some(Text {
+    Some(WholeString {
         content,
         rest: &after[2..],
     })
@@ -197,7 +197,7 @@ fn after_words(text: &[u8], count: u64, most: u64) -> Option<&[u8]>
 /// Returns the bulk string at the beginning of some bytes that begin with one. It checks less than
 /// `word`.
 #[inline(always)]
-fn first_word(text: &[u8]) -> Text<'_>
+fn first_word(text: &[u8]) -> WholeString<'_>
     requires { (word rest : List ℕ) × BeginsWithWord 1_073_741_824 text.now word rest }
     ensures { BeginsWithWord 1_073_741_824 text.now result.content.now result.rest.now }
 {
@@ -208,7 +208,7 @@ fn first_word(text: &[u8]) -> Text<'_>
         end += 1;
     }
     let (content, after) = text[end + 2..].split_at(length);
-    Text {
+    WholeString {
         content,
         rest: &after[2..],
     }
@@ -217,12 +217,12 @@ fn first_word(text: &[u8]) -> Text<'_>
 /// The words of a command after its name, in order. They are borrowed, and taking them does not
 /// allocate.
 #[derive(Debug, Drop)]
-pub struct Words<'a> {
+pub struct CommandArguments<'a> {
     text: &'a [u8],
     left: u64,
 }
 
-impl<'a> Model for Words<'a> {
+impl<'a> Model for CommandArguments<'a> {
     ghost use Rattle.std.specs.Prelude.{ℕ, List};
     ghost use Rattle.resp_scan.specs.Whole.{HasWords, words_in};
 
@@ -233,7 +233,7 @@ impl<'a> Model for Words<'a> {
     ghost invariant = { λ words. HasWords 1_073_741_824 words.left words.text.now };
 }
 
-impl<'a> Words<'a> {
+impl<'a> CommandArguments<'a> {
     /// Returns the number of words that are left.
     #[inline]
     pub fn len(&self) -> u64
@@ -244,17 +244,17 @@ impl<'a> Words<'a> {
 
     /// Returns an iterator over the words that are left.
     #[inline(always)]
-    pub fn iter(&self) -> Words<'a>
+    pub fn iter(&self) -> CommandArguments<'a>
         ensures { result ≡ self.now }
     {
-        Words {
+        CommandArguments {
             text: self.text,
             left: self.left,
         }
     }
 }
 
-impl<'a> Iterator for Words<'a> {
+impl<'a> Iterator for CommandArguments<'a> {
     type Item = &'a [u8];
 
     ghost next_gives = { TakesFirst deref };
@@ -279,15 +279,15 @@ pub struct WholeCommand<'a> {
     /// The first word.
     pub name: &'a [u8],
     /// The other words.
-    pub arguments: Words<'a>,
+    pub arguments: CommandArguments<'a>,
     /// The bytes after the command.
     pub rest: &'a [u8],
 }
 
 /// Returns the head of an array at the beginning of some bytes, if its number is within the limit
-/// of items.
+/// `items`.
 #[inline(always)]
-pub fn array_head<'a>(text: &'a [u8], limits: &Limits) -> Option<Head<'a>>
+pub fn array_head<'a>(text: &'a [u8], limits: &Limits) -> Option<WholeHead<'a>>
     ensures begins { IfSome result (λ head.
         BeginsWithHead text.now (byte "*") head.number head.rest.now) }
     ensures within { IfSome result (λ head. head.number ≤ limits.now.items) }
@@ -298,9 +298,9 @@ pub fn array_head<'a>(text: &'a [u8], limits: &Limits) -> Option<Head<'a>>
 }
 
 /// Returns the head of a bulk string at the beginning of some bytes, if its number is within the
-/// limit of length.
+/// limit `length`.
 #[inline(always)]
-pub fn bulk_head<'a>(text: &'a [u8], limits: &Limits) -> Option<Head<'a>>
+pub fn bulk_head<'a>(text: &'a [u8], limits: &Limits) -> Option<WholeHead<'a>>
     ensures begins { IfSome result (λ head.
         BeginsWithHead text.now (byte "$") head.number head.rest.now) }
     ensures within { IfSome result (λ head. head.number ≤ limits.now.length) }
@@ -312,7 +312,7 @@ pub fn bulk_head<'a>(text: &'a [u8], limits: &Limits) -> Option<Head<'a>>
 
 /// Returns the bulk string at the beginning of some bytes, if it is within the limits.
 #[inline]
-pub fn bulk_string<'a>(text: &'a [u8], limits: &Limits) -> Option<Text<'a>>
+pub fn bulk_string<'a>(text: &'a [u8], limits: &Limits) -> Option<WholeString<'a>>
     ensures begins { IfSome result (λ found. BeginsWith limits.now text.now
         (word_datum found.content.now) found.rest.now) }
     ensures none { IfNone result ((content rest : List ℕ) →
@@ -325,7 +325,7 @@ pub fn bulk_string<'a>(text: &'a [u8], limits: &Limits) -> Option<Text<'a>>
     Some(found)
 }
 
-/// Returns the command at the beginning of some bytes: an array of at least one bulk string and of
+/// Returns the command at the beginning of some bytes: an array of at least one bulk string and
 /// nothing else, within the limits.
 #[inline(always)]
 pub fn command<'a>(text: &'a [u8], limits: &Limits) -> Option<WholeCommand<'a>>
@@ -346,7 +346,7 @@ pub fn command<'a>(text: &'a [u8], limits: &Limits) -> Option<WholeCommand<'a>>
     if (text.len() - rest.len()) as u64 > limits.total() {
         return None;
     }
-    let arguments = Words {
+    let arguments = CommandArguments {
         text: name.rest,
         left: count,
     };

@@ -6,8 +6,8 @@ use Rattle.std.proofs.lemmas.Bool.{cases_eq}
 use Rattle.std.proofs.lemmas.Bool.Decides.{nat_tests}
 use Rattle.resp_schedule.specs.Places.{times, without}
 use Rattle.resp_schedule.specs.Plans.{is_open}
-use Rattle.resp_schedule.specs.declared.schedule.State.{State}
-use Rattle.resp_schedule.specs.declared.schedule.State.TheVariants.{Closed, Idle, Queued}
+use Rattle.resp_schedule.specs.declared.schedule.PlaceState.{PlaceState}
+use Rattle.resp_schedule.specs.declared.schedule.PlaceState.TheVariants.{Closed, Idle, Queued}
 use Rattle.resp_schedule.specs.Stands.{queued, closed}
 
 pub times-cons_same : (place : ℕ) (places : List ℕ) → times place (place ∷ places) ≡ 1 + times place places
@@ -26,55 +26,55 @@ pub times-drop-le : (place n : ℕ) (places : List ℕ) → times place (drop n 
 times-drop-le place n places = omega (arith, sum_by-take-drop (λ q. cond (q == place) 1 0) places n)
 
 -- a place beyond the list is in no state
-pub queued_within : (states : List State) (place : ℕ) → 0 < queued (get_or states place Closed) → place < length states
+pub queued_within : (states : List PlaceState) (place : ℕ) → 0 < queued (get_or states place Closed) → place < length states
 queued_within [] place some = absurd (omega (arith, some))
 queued_within (state ∷ states) zero some = omega arith
 queued_within (state ∷ states) (suc place) some = omega (arith, queued_within states place some)
 
-pub closed_within : (states : List State) (place : ℕ) → 0 < closed (get_or states place Idle) → place < length states
+pub closed_within : (states : List PlaceState) (place : ℕ) → 0 < closed (get_or states place Idle) → place < length states
 closed_within [] place some = absurd (omega (arith, some))
 closed_within (state ∷ states) zero some = omega arith
 closed_within (state ∷ states) (suc place) some = omega (arith, closed_within states place some)
 
-pub open_within : (states : List State) (place : ℕ) → is_open (get_or states place Closed) ≡ true → place < length states
+pub open_within : (states : List PlaceState) (place : ℕ) → is_open (get_or states place Closed) ≡ true → place < length states
 open_within [] place is = absurd (cc)
 open_within (state ∷ states) zero is = omega arith
 open_within (state ∷ states) (suc place) is = omega (arith, open_within states place is)
 
-pub queued_is : (state : State) → 0 < queued state → state ≡ Queued
+pub queued_is : (state : PlaceState) → 0 < queued state → state ≡ Queued
 queued_is Closed some = absurd (omega (arith, some))
 queued_is Idle some = absurd (omega (arith, some))
 queued_is Queued some = refl
 
-pub closed_is : (state : State) → 0 < closed state → state ≡ Closed
+pub closed_is : (state : PlaceState) → 0 < closed state → state ≡ Closed
 closed_is Closed some = refl
 closed_is Idle some = absurd (omega (arith, some))
 closed_is Queued some = absurd (omega (arith, some))
 
-pub queued-le : (state : State) → queued state ≤ 1
+pub queued-le : (state : PlaceState) → queued state ≤ 1
 queued-le Closed = omega arith
 queued-le Idle = omega arith
 queued-le Queued = omega arith
 
 -- there are at least as many states as queued ones and a place that is open and not queued
-pub queued_sum : (states : List State) → sum_by queued states ≤ length states
+pub queued_sum : (states : List PlaceState) → sum_by queued states ≤ length states
 queued_sum [] = omega arith
 queued_sum (state ∷ states) = omega (arith, sum_by-cons queued state states, queued-le state, queued_sum states)
 
-pub room_to_queue : (states : List State) (place : ℕ) → get_or states place Closed ≡ Idle → sum_by queued states < length states
+pub room_to_queue : (states : List PlaceState) (place : ℕ) → get_or states place Closed ≡ Idle → sum_by queued states < length states
 room_to_queue [] place is = absurd (cc)
 room_to_queue (state ∷ states) zero is =
     omega (arith, sum_by-cons queued state states, ap queued is, queued_sum states)
 room_to_queue (state ∷ states) (suc place) is =
     omega (arith, sum_by-cons queued state states, queued-le state, room_to_queue states place is)
 
-pub closed-le : (state : State) → closed state + cond (is_open state) 1 0 ≡ 1
+pub closed-le : (state : PlaceState) → closed state + cond (is_open state) 1 0 ≡ 1
 closed-le Closed = refl
 closed-le Idle = refl
 closed-le Queued = refl
 
 -- each place is closed or open
-pub closed_or_open : (states : List State) → sum_by closed states + count_by is_open states ≡ length states
+pub closed_or_open : (states : List PlaceState) → sum_by closed states + count_by is_open states ≡ length states
 closed_or_open [] = refl
 closed_or_open (state ∷ states) =
     omega (arith, sum_by-cons closed state states, sum_by-cons (λ s. cond (is_open s) 1 0) state states, closed-le state, closed_or_open states)
@@ -124,7 +124,7 @@ without_push_other place other (q ∷ places) apart = elim (cases_eq q place) [
   | inr differs ↦ grind (arith, nat_tests, without_push_other place other places apart)
 ]
 
-pub closed_one : (state : State) → closed state ≤ 1
+pub closed_one : (state : PlaceState) → closed state ≤ 1
 closed_one Closed = omega arith
 closed_one Idle = omega arith
 closed_one Queued = omega arith

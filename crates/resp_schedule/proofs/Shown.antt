@@ -4,12 +4,12 @@ use Rattle.std.specs.List.{count_by}
 use Rattle.std.proofs.Math.ListN.{set}
 use Rattle.std.proofs.lemmas.List.{get_or-set_same, get_or-set_other}
 use Rattle.resp_schedule.specs.Plans.{Plan, Changes, VisitsNext, due_of, is_open}
-use Rattle.resp_schedule.specs.declared.schedule.State.{State}
-use Rattle.resp_schedule.specs.declared.schedule.State.TheVariants.{Closed, Idle, Queued}
+use Rattle.resp_schedule.specs.declared.schedule.PlaceState.{PlaceState}
+use Rattle.resp_schedule.specs.declared.schedule.PlaceState.TheVariants.{Closed, Idle, Queued}
 use Rattle.resp_schedule.proofs.Steps.{take_first, count-set}
 
 -- one place was written
-pub changes_at : (shown old new : Plan) (place : ℕ) (before after : State) → shown ≡ old → get_or shown.states place Closed ≡ before →
+pub changes_at : (shown old new : Plan) (place : ℕ) (before after : PlaceState) → shown ≡ old → get_or shown.states place Closed ≡ before →
     place < length shown.states → new.states ≡ set shown.states place after → Changes old new place before after
 changes_at shown old new place before after same was within written =
     subst (λ plan. Changes plan new place before after) same record {
@@ -23,7 +23,7 @@ pub due_is : (old new : Plan) → new.queue ≡ old.queue → new.due ≡ old.du
 due_is old new queue due = ap (λ n. take n new.queue) due ∙ ap (take old.due) queue
 
 -- nothing else changes
-pub rest_is : (shown old : Plan) (states : List State) (gone : List ℕ) → shown ≡ old → gone ≡ shown.gone →
+pub rest_is : (shown old : Plan) (states : List PlaceState) (gone : List ℕ) → shown ≡ old → gone ≡ shown.gone →
     record shown { states = states; gone = gone } ≡ record old { states = states }
 rest_is shown old states gone same kept =
     ap (λ g. record shown { states = states; gone = g }) kept ∙ ap (λ (plan : Plan). record plan { states = states }) same

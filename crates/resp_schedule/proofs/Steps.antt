@@ -7,23 +7,23 @@ use Rattle.std.proofs.lemmas.List.Sums.{sum_by_push, sum_by-set}
 use Rattle.std.proofs.lemmas.Bool.{cases_eq}
 use Rattle.resp_schedule.specs.Places.{times, without}
 use Rattle.resp_schedule.specs.Plans.{is_open}
-use Rattle.resp_schedule.specs.declared.schedule.State.{State}
-use Rattle.resp_schedule.specs.declared.schedule.State.TheVariants.{Closed, Idle, Queued}
+use Rattle.resp_schedule.specs.declared.schedule.PlaceState.{PlaceState}
+use Rattle.resp_schedule.specs.declared.schedule.PlaceState.TheVariants.{Closed, Idle, Queued}
 use Rattle.resp_schedule.specs.Stands.{Stands, queued, closed}
 use Rattle.resp_schedule.proofs.Lists.{times-cons_same, times-cons_other, times_push_same, times_push_other, times-without_same, times-without_other, length-without, queued_within, closed_within, open_within, queued_is, closed_is, closed_or_open, closed_one, times-drop-le}
 
 -- 1 for an open place
-abbrev pub opened : State → ℕ
+abbrev pub opened : PlaceState → ℕ
 opened state = cond (is_open state) 1 0
 
 -- sums after a place changed its state
-pub sum-set : (f : State → ℕ) (states : List State) (place : ℕ) (before after default : State) → place < length states →
+pub sum-set : (f : PlaceState → ℕ) (states : List PlaceState) (place : ℕ) (before after default : PlaceState) → place < length states →
     get_or states place default ≡ before → sum_by f (set states place after) + f before ≡ sum_by f states + f after
 sum-set f states place before after default within was =
     ap (λ s. sum_by f (set states place after) + f s) (sym was) ∙ sum_by-set f states place after default within
 
 -- what holds of each place, after one place changed its state
-pub each-set : (f : State → ℕ) (states : List State) (place : ℕ) (after default : State) (old new : List ℕ) → place < length states →
+pub each-set : (f : PlaceState → ℕ) (states : List PlaceState) (place : ℕ) (after default : PlaceState) (old new : List ℕ) → place < length states →
     ((other : ℕ) → times other old ≡ f (get_or states other default)) → times place new ≡ f after →
     ((other : ℕ) → other ≢ place → times other new ≡ times other old) →
     (other : ℕ) → times other new ≡ f (get_or (set states place after) other default)
@@ -34,7 +34,7 @@ each-set f states place after default old new within before here there other = e
 ]
 
 -- the first place of the queue leaves it
-pub pops : (states : List State) (place : ℕ) (rest : List ℕ) (due : ℕ) (free : List ℕ) (reusable opens most q f : ℕ) → 0 < due →
+pub pops : (states : List PlaceState) (place : ℕ) (rest : List ℕ) (due : ℕ) (free : List ℕ) (reusable opens most q f : ℕ) → 0 < due →
     Stands states (place ∷ rest) due free reusable opens most q f →
     Stands (set states place Idle) rest (due - 1) free reusable opens most q f
 pops states place rest due free reusable opens most q f some s =
@@ -60,7 +60,7 @@ pops states place rest due free reusable opens most q f some s =
     }
 
 -- an idle place is queued last
-pub pushes : (states : List State) (place : ℕ) (queue : List ℕ) (due : ℕ) (free : List ℕ) (reusable opens most q f : ℕ) →
+pub pushes : (states : List PlaceState) (place : ℕ) (queue : List ℕ) (due : ℕ) (free : List ℕ) (reusable opens most q f : ℕ) →
     get_or states place Closed ≡ Idle → Stands states queue due free reusable opens most q f →
     Stands (set states place Queued) (queue ++ place ∷ []) due free reusable opens most q f
 pushes states place queue due free reusable opens most q f was s =
@@ -84,7 +84,7 @@ pushes states place queue due free reusable opens most q f was s =
     }
 
 -- the first free place is opened again
-pub reuses : (states : List State) (queue : List ℕ) (due place : ℕ) (rest : List ℕ) (reusable opens most q f : ℕ) → 0 < reusable → opens < most →
+pub reuses : (states : List PlaceState) (queue : List ℕ) (due place : ℕ) (rest : List ℕ) (reusable opens most q f : ℕ) → 0 < reusable → opens < most →
     Stands states queue due (place ∷ rest) reusable opens most q f →
     Stands (set states place Idle) queue due rest (reusable - 1) (opens + 1) most q f
 reuses states queue due place rest reusable opens most q f some few s =
@@ -110,7 +110,7 @@ reuses states queue due place rest reusable opens most q f some few s =
     }
 
 -- a place beyond the list has the same number as a new one
-pub push_same : (f : State → ℕ) (states : List State) (default : State) → f default ≡ f Idle →
+pub push_same : (f : PlaceState → ℕ) (states : List PlaceState) (default : PlaceState) → f default ≡ f Idle →
     (other : ℕ) → f (get_or states other default) ≡ f (get_or (states ++ Idle ∷ []) other default)
 push_same f [] default same zero = same
 push_same f [] default same (suc other) = refl
@@ -118,7 +118,7 @@ push_same f (state ∷ states) default same zero = refl
 push_same f (state ∷ states) default same (suc other) = push_same f states default same other
 
 -- a new place is opened
-pub adds : (states : List State) (queue : List ℕ) (due : ℕ) (free : List ℕ) (reusable opens most q f q' f' : ℕ) → opens < most →
+pub adds : (states : List PlaceState) (queue : List ℕ) (due : ℕ) (free : List ℕ) (reusable opens most q f q' f' : ℕ) → opens < most →
     length states + 1 ≤ q' → length states + 1 ≤ f' → Stands states queue due free reusable opens most q f →
     Stands (states ++ Idle ∷ []) queue due free reusable (opens + 1) most q' f'
 adds states queue due free reusable opens most q f q' f' few to_queue to_free s = record {
@@ -135,7 +135,7 @@ adds states queue due free reusable opens most q f q' f' few to_queue to_free s 
 }
 
 -- an idle place is closed
-pub closes_idle : (states : List State) (place : ℕ) (queue : List ℕ) (due : ℕ) (free : List ℕ) (reusable opens most q f : ℕ) →
+pub closes_idle : (states : List PlaceState) (place : ℕ) (queue : List ℕ) (due : ℕ) (free : List ℕ) (reusable opens most q f : ℕ) →
     get_or states place Closed ≡ Idle → Stands states queue due free reusable opens most q f →
     Stands (set states place Closed) queue due (free ++ place ∷ []) reusable (opens - 1) most q f
 closes_idle states place queue due free reusable opens most q f was s =
@@ -159,17 +159,17 @@ closes_idle states place queue due free reusable opens most q f was s =
     }
 
 -- the same three of lists that are known to begin with the place
-pub queue_within : (states : List State) (place : ℕ) (queue rest : List ℕ) (due : ℕ) (free : List ℕ) (reusable opens most q f : ℕ) →
+pub queue_within : (states : List PlaceState) (place : ℕ) (queue rest : List ℕ) (due : ℕ) (free : List ℕ) (reusable opens most q f : ℕ) →
     queue ≡ place ∷ rest → Stands states queue due free reusable opens most q f → place < length states
 queue_within states place queue rest due free reusable opens most q f begins s =
     queued_within states place (omega (arith, sym (s.is_queued place) ∙ ap (times place) begins, times-cons_same place rest))
 
-pub free_within : (states : List State) (place : ℕ) (queue : List ℕ) (due : ℕ) (free rest : List ℕ) (reusable opens most q f : ℕ) →
+pub free_within : (states : List PlaceState) (place : ℕ) (queue : List ℕ) (due : ℕ) (free rest : List ℕ) (reusable opens most q f : ℕ) →
     free ≡ place ∷ rest → Stands states queue due free reusable opens most q f → place < length states
 free_within states place queue due free rest reusable opens most q f begins s =
     closed_within states place (omega (arith, sym (s.is_free place) ∙ ap (times place) begins, times-cons_same place rest))
 
-pub pops_first : (states : List State) (place : ℕ) (queue rest : List ℕ) (due : ℕ) (free : List ℕ) (reusable opens most q q' f : ℕ) →
+pub pops_first : (states : List PlaceState) (place : ℕ) (queue rest : List ℕ) (due : ℕ) (free : List ℕ) (reusable opens most q q' f : ℕ) →
     queue ≡ place ∷ rest → q' ≡ q → 0 < due → Stands states queue due free reusable opens most q f →
     Stands (set states place Idle) rest (due - 1) free reusable opens most q' f
 pops_first states place queue rest due free reusable opens most q q' f begins same some s =
@@ -177,7 +177,7 @@ pops_first states place queue rest due free reusable opens most q q' f begins sa
     (pops states place rest due free reusable opens most q f some
     (subst (λ xs. Stands states xs due free reusable opens most q f) begins s))
 
-pub reuses_first : (states : List State) (place : ℕ) (queue : List ℕ) (due : ℕ) (free rest : List ℕ) (reusable opens most q f f' : ℕ) →
+pub reuses_first : (states : List PlaceState) (place : ℕ) (queue : List ℕ) (due : ℕ) (free rest : List ℕ) (reusable opens most q f f' : ℕ) →
     free ≡ place ∷ rest → f' ≡ f → 0 < reusable → opens < most → Stands states queue due free reusable opens most q f →
     Stands (set states place Idle) queue due rest (reusable - 1) (opens + 1) most q f'
 reuses_first states place queue due free rest reusable opens most q f f' begins same some few s =
@@ -186,14 +186,14 @@ reuses_first states place queue due free rest reusable opens most q f f' begins 
     (subst (λ xs. Stands states queue due xs reusable opens most q f) begins s))
 
 -- the number of open places stays, where an open place stays open
-pub count-set : (states : List State) (place : ℕ) (before after : State) → get_or states place Closed ≡ before → is_open before ≡ true →
+pub count-set : (states : List PlaceState) (place : ℕ) (before after : PlaceState) → get_or states place Closed ≡ before → is_open before ≡ true →
     is_open after ≡ true → count_by is_open (set states place after) ≡ count_by is_open states
 count-set states place before after was live stays =
     let within : place < length states = open_within states place (ap is_open was ∙ live) in
     omega (arith, sum-set opened states place before after Closed within was, ap {B = ℕ} (λ b. cond b 1 0) live, ap {B = ℕ} (λ b. cond b 1 0) stays)
 
 -- the state of the first place of the queue
-pub first_is : (states : List State) (place : ℕ) (queue rest : List ℕ) (due : ℕ) (free : List ℕ) (reusable opens most q f : ℕ) →
+pub first_is : (states : List PlaceState) (place : ℕ) (queue rest : List ℕ) (due : ℕ) (free : List ℕ) (reusable opens most q f : ℕ) →
     queue ≡ place ∷ rest → Stands states queue due free reusable opens most q f → get_or states place Closed ≡ Queued
 first_is states place queue rest due free reusable opens most q f begins s =
     queued_is _ (omega (arith, sym (s.is_queued place) ∙ ap (times place) begins, times-cons_same place rest))
@@ -213,7 +213,7 @@ drop_first (suc n) free place rest begins some =
     ap (drop (suc n)) begins ∙ ap (λ m. drop m rest) less
 
 -- the first free place is not among those that were closed in this round
-pub not_gone : (states : List State) (place : ℕ) (queue : List ℕ) (due : ℕ) (free rest : List ℕ) (reusable opens most q f : ℕ) →
+pub not_gone : (states : List PlaceState) (place : ℕ) (queue : List ℕ) (due : ℕ) (free rest : List ℕ) (reusable opens most q f : ℕ) →
     free ≡ place ∷ rest → 0 < reusable → Stands states queue due free reusable opens most q f → times place (drop reusable free) ≡ 0
 not_gone states place queue due free rest reusable opens most q f begins some s =
     let known : times place (place ∷ rest) ≡ closed (get_or states place Idle) = sym (ap (times place) begins) ∙ s.is_free place in
@@ -221,13 +221,13 @@ not_gone states place queue due free rest reusable opens most q f begins some s 
     omega (arith, known, times-cons_same place rest, closed_one (get_or states place Idle), times-drop-le place (reusable - 1) rest)
 
 -- a new place is not free
-pub new_is_not_gone : (states : List State) (place : ℕ) (queue : List ℕ) (due : ℕ) (free : List ℕ) (reusable opens most q f : ℕ) →
+pub new_is_not_gone : (states : List PlaceState) (place : ℕ) (queue : List ℕ) (due : ℕ) (free : List ℕ) (reusable opens most q f : ℕ) →
     length states ≤ place → Stands states queue due free reusable opens most q f → times place (drop reusable free) ≡ 0
 new_is_not_gone states place queue due free reusable opens most q f beyond s =
     omega (arith, times-drop-le place reusable free, s.is_free place, ap closed (get_or_past states place Idle beyond))
 
 -- the state of the first free place
-pub free_is : (states : List State) (place : ℕ) (queue : List ℕ) (due : ℕ) (free rest : List ℕ) (reusable opens most q f : ℕ) →
+pub free_is : (states : List PlaceState) (place : ℕ) (queue : List ℕ) (due : ℕ) (free rest : List ℕ) (reusable opens most q f : ℕ) →
     free ≡ place ∷ rest → Stands states queue due free reusable opens most q f → get_or states place Closed ≡ Closed
 free_is states place queue due free rest reusable opens most q f begins s =
     let within : place < length states = free_within states place queue due free rest reusable opens most q f begins s in
@@ -235,19 +235,19 @@ free_is states place queue due free rest reusable opens most q f begins s =
     closed_is _ (omega (arith, sym (s.is_free place) ∙ ap (times place) begins, times-cons_same place rest))
 
 -- one more place is open
-pub count-open : (states : List State) (place : ℕ) → place < length states → get_or states place Closed ≡ Closed →
+pub count-open : (states : List PlaceState) (place : ℕ) → place < length states → get_or states place Closed ≡ Closed →
     count_by is_open (set states place Idle) ≡ count_by is_open states + 1
 count-open states place within was = omega (arith, sum-set opened states place Closed Idle Closed within was)
 
 -- one place fewer is open
-pub count-close : (states : List State) (place : ℕ) (before : State) → get_or states place Closed ≡ before → is_open before ≡ true →
+pub count-close : (states : List PlaceState) (place : ℕ) (before : PlaceState) → get_or states place Closed ≡ before → is_open before ≡ true →
     count_by is_open (set states place Closed) + 1 ≡ count_by is_open states
 count-close states place before was live =
     let within : place < length states = open_within states place (ap is_open was ∙ live) in
     omega (arith, sum-set opened states place before Closed Closed within was, ap {B = ℕ} (λ b. cond b 1 0) live)
 
 -- the same of lists that are known to be these
-pub adds_to : (states states' : List State) (queue queue' : List ℕ) (due : ℕ) (free free' : List ℕ) (reusable opens most q f q' f' : ℕ) →
+pub adds_to : (states states' : List PlaceState) (queue queue' : List ℕ) (due : ℕ) (free free' : List ℕ) (reusable opens most q f q' f' : ℕ) →
     states' ≡ states ++ Idle ∷ [] → queue' ≡ queue → free' ≡ free → opens < most → length states + 1 ≤ q' → length states + 1 ≤ f' →
     Stands states queue due free reusable opens most q f → Stands states' queue' due free' reusable (opens + 1) most q' f'
 adds_to states states' queue queue' due free free' reusable opens most q f q' f' grown same_queue same_free few to_queue to_free s =
@@ -257,7 +257,7 @@ adds_to states states' queue queue' due free free' reusable opens most q f q' f'
     (adds states queue due free reusable opens most q f q' f' few to_queue to_free s)))
 
 -- a queued place is taken out of the queue
-pub dequeues : (states : List State) (place : ℕ) (queue queue' : List ℕ) (due left : ℕ) (free : List ℕ) (reusable opens most q q' f : ℕ) →
+pub dequeues : (states : List PlaceState) (place : ℕ) (queue queue' : List ℕ) (due left : ℕ) (free : List ℕ) (reusable opens most q q' f : ℕ) →
     get_or states place Closed ≡ Queued → queue' ≡ without place queue → left ≤ length queue' → q' ≡ q →
     Stands states queue due free reusable opens most q f → Stands (set states place Idle) queue' left free reusable opens most q' f
 dequeues states place queue queue' due left free reusable opens most q q' f was removed fits same s =
@@ -282,13 +282,13 @@ dequeues states place queue queue' due left free reusable opens most q q' f was 
     }
 
 -- there is room for one more free place beside an open one
-pub room_to_close : (states : List State) (place : ℕ) (queue : List ℕ) (due : ℕ) (free : List ℕ) (reusable opens most q f : ℕ) →
+pub room_to_close : (states : List PlaceState) (place : ℕ) (queue : List ℕ) (due : ℕ) (free : List ℕ) (reusable opens most q f : ℕ) →
     get_or states place Closed ≡ Idle → Stands states queue due free reusable opens most q f → length free < f
 room_to_close states place queue due free reusable opens most q f was s =
     omega (arith, s.free_length, s.free_room, closed_or_open states, count-close states place Idle was refl)
 
 -- an idle place is closed, in lists that are known to be these
-pub closes : (states : List State) (place : ℕ) (queue : List ℕ) (due : ℕ) (free free' : List ℕ) (reusable opens most q f f' : ℕ) →
+pub closes : (states : List PlaceState) (place : ℕ) (queue : List ℕ) (due : ℕ) (free free' : List ℕ) (reusable opens most q f f' : ℕ) →
     get_or states place Closed ≡ Idle → free' ≡ free ++ place ∷ [] → f' ≡ f → Stands states queue due free reusable opens most q f →
     Stands (set states place Closed) queue due free' reusable (opens - 1) most q f'
 closes states place queue due free free' reusable opens most q f f' was grown same s =

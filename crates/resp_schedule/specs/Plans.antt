@@ -3,12 +3,12 @@ use Rattle.std.specs.Prelude.{◌≡◌, ◌≢◌, ℕ, ◌+◌, Bool, true, fa
 use Rattle.std.specs.List.{count_by}
 use Rattle.resp_schedule.specs.declared.schedule.Backlog.{Backlog}
 use Rattle.resp_schedule.specs.declared.schedule.Backlog.TheVariants.{Empty, Waiting, Failing, Stopped}
-use Rattle.resp_schedule.specs.declared.schedule.State.{State}
-use Rattle.resp_schedule.specs.declared.schedule.State.TheVariants.{Closed, Idle, Queued}
+use Rattle.resp_schedule.specs.declared.schedule.PlaceState.{PlaceState}
+use Rattle.resp_schedule.specs.declared.schedule.PlaceState.TheVariants.{Closed, Idle, Queued}
 
 pub record Plan : Type 0 where
   -- the state of each place; all further places are closed
-  pub states : List State
+  pub states : List PlaceState
   -- the places that are queued, in the order of their visits
   pub queue : List ℕ
   -- how many of them are visited in this round
@@ -24,7 +24,7 @@ pub record Plan : Type 0 where
 abbrev pub new_plan : ℕ → Plan
 new_plan most = record { states = []; queue = []; due = 0; gone = []; backlog = Empty; most = most }
 
-abbrev pub state_of : Plan → ℕ → State
+abbrev pub state_of : Plan → ℕ → PlaceState
 state_of plan place = slice_index_or plan.states place Closed
 
 -- the places that are visited in this round, in order
@@ -32,7 +32,7 @@ abbrev pub due_of : Plan → List ℕ
 due_of plan = take plan.due plan.queue
 
 -- a place is open if it is not closed
-abbrev pub is_open : State → Bool
+abbrev pub is_open : PlaceState → Bool
 is_open Closed = false
 is_open Idle = true
 is_open Queued = true
@@ -42,7 +42,7 @@ abbrev pub open_count : Plan → ℕ
 open_count plan = count_by is_open plan.states
 
 -- a place goes from one state to another, and all other places keep theirs
-pub record Changes (old new : Plan) (place : ℕ) (before after : State) : Type 0 where
+pub record Changes (old new : Plan) (place : ℕ) (before after : PlaceState) : Type 0 where
   pub was : state_of old place ≡ before
   pub now : state_of new place ≡ after
   pub others : (other : ℕ) → other ≢ place → state_of new other ≡ state_of old other
@@ -76,5 +76,5 @@ abbrev pub next_round : Plan → Plan
 next_round plan = record plan { due = length plan.queue; gone = [] }
 
 -- a place is queued behind all others
-abbrev pub queued_last : ℕ → List State → Plan → Plan
+abbrev pub queued_last : ℕ → List PlaceState → Plan → Plan
 queued_last place states plan = record plan { states = states; queue = plan.queue ++ place ∷ [] }

@@ -1,4 +1,4 @@
-//! The most events of one kind that are reported in a second.
+//! The maximum number of events of one kind that are reported in a second.
 
 ghost use Rattle.std.specs.Prelude.{◌≡◌, ◌↔◌, false, option_map, IsTrue};
 ghost use Rattle.std.specs.Duration.{as_nanos};
@@ -9,14 +9,14 @@ use std::time::Duration;
 /// The length of a period, in milliseconds.
 const PERIOD: u64 = 1_000;
 
-/// Allows at most so many events in a second, and counts the others.
+/// Allows at most this many events in a second, and counts the others.
 ///
 /// A second begins with the first event after the second before it.
 #[derive(Clone, Copy, Debug, PartialEq, Eq)]
 pub struct Allowance {
-    /// The most events that are allowed in one second.
+    /// The maximum number of events that are allowed in one second.
     pub most: u32,
-    /// When the present second has begun, by a clock that never goes back.
+    /// The time at which the current second began, on a clock that never goes back.
     pub since: Duration,
     /// The events that were allowed in it.
     pub count: u32,
@@ -90,7 +90,7 @@ impl Allowance {
         Some(end.saturating_sub(now))
     }
 
-    /// Returns whether the present second is over.
+    /// Returns whether the current second is over.
     fn is_over(&self, now: Duration) -> bool
         ensures { IsTrue result ↔ HasPassed self.now now }
     {

@@ -6,7 +6,7 @@ ghost use Rattle.resp_schedule.specs.Attempts.{HasJustReplied, HasLooked, HasNot
 
 use std::time::Duration;
 
-/// How far a connection is. All times are those of a clock that never goes back.
+/// The state of a connection. All times are those of a clock that never goes back.
 #[derive(Clone, Copy, Debug, PartialEq, Eq)]
 pub enum Phase {
     /// There is no connection. The next attempt may begin at this time.
@@ -14,7 +14,7 @@ pub enum Phase {
         /// The time.
         until: Duration,
     },
-    /// A connection was begun at this time, and is not usable yet.
+    /// A connection was started at this time, and is still pending.
     Begun {
         /// The time.
         since: Duration,
@@ -49,7 +49,7 @@ pub struct Attempts {
     pub pause: u64,
     /// The current time.
     pub time: Duration,
-    /// How far the connection is.
+    /// The state of the connection.
     pub phase: Phase,
 }
 
@@ -76,7 +76,7 @@ impl Attempts {
         matches!(self.phase, Phase::Open(_))
     }
 
-    /// Returns whether there is no connection, and none was begun.
+    /// Returns whether no connection is open or pending.
     pub fn is_down(&self) -> bool
         ensures { IsTrue result ↔ IsDown self.now }
     {
@@ -93,7 +93,7 @@ impl Attempts {
         }
     }
 
-    /// Notes that a connection is begun now.
+    /// Notes that a connection is started now.
     pub fn begin(&mut self)
         ensures begun { IsBegunSince self.old.time self.new.phase }
         ensures rest { self.new ≡ record self.old { phase = self.new.phase } }
@@ -170,9 +170,9 @@ impl Attempts {
         Some(until.saturating_sub(self.time))
     }
 
-    /// Notes that there is no connection any more. The next attempt may begin at once if a reply
-    /// came over this connection, and otherwise after a pause: 10 milliseconds, or twice the pause
-    /// before, at most a second.
+    /// Notes that the connection was lost. The next attempt may begin at once if a reply came over
+    /// this connection, and otherwise after a pause: 10 milliseconds, or twice the pause before, at
+    /// most a second.
     pub fn lose(&mut self)
         ensures paused { HasPaused self.old self.new }
     {
@@ -197,8 +197,8 @@ impl Attempts {
         self.phase = Phase::Down { until: self.time };
     }
 
-    /// Notes that the connection is closed on purpose. The next attempt may begin at once, and
-    /// pauses begin anew.
+    /// Notes that the connection is closed on purpose. The next attempt may begin at once, and the
+    /// pauses start again at 10 milliseconds.
     pub fn stop(&mut self)
         ensures may_begin { MayBegin self.new }
         ensures no_pause { self.new.pause ≡ 0 }
@@ -209,7 +209,7 @@ impl Attempts {
         self.phase = Phase::Down { until: self.time };
     }
 
-    /// Returns whether a connection was begun, and is not open in time.
+    /// Returns whether a pending connection is not open in time.
     pub fn is_late(&self) -> bool
         ensures { IsTrue result ↔ IsLate self.now }
     {

@@ -20,4 +20,4 @@ mod schedule;
 
 pub use allowance::Allowance;
 pub use attempts::{Attempts, Phase, Quiet};
-pub use schedule::{Backlog, OpenError, Schedule, State, Wait};
+pub use schedule::{Backlog, OpenError, PlaceState, Schedule, Wait};

@@ -9,7 +9,7 @@ use std::marker::Model;
 
 /// The state of a place.
 #[derive(Clone, Copy, Debug, PartialEq, Eq)]
-pub enum State {
+pub enum PlaceState {
     /// The place has no connection.
     Closed,
     /// The place has a connection, which is visited when its socket is ready.
@@ -27,7 +27,7 @@ pub enum Backlog {
     Waiting,
     /// Connections may wait, and the last attempt to accept one failed.
     Failing,
-    /// No connection is accepted any more.
+    /// No more connections are accepted.
     Stopped,
 }
 
@@ -59,7 +59,7 @@ pub enum Wait {
 /// Why no place was opened.
 #[derive(Clone, Copy, Debug, PartialEq, Eq)]
 pub enum OpenError {
-    /// The most places are open.
+    /// The maximum number of places is open.
     Full,
     /// The schedule was stopped.
     Stopped,
@@ -74,7 +74,7 @@ pub enum OpenError {
 #[derive(Drop)]
 pub struct Schedule {
     /// The state of each place that was ever open.
-    states: Vec<State>,
+    states: Vec<PlaceState>,
     /// The places that are queued, in the order of their visits.
     queue: VecDeque<usize>,
     /// How many of them are visited in this round.
@@ -141,14 +141,14 @@ impl Schedule {
 
     /// Returns the state of a place. A place is in the queue once if it is queued, and otherwise
     /// not at all.
-    pub fn state(&self, place: usize) -> State
+    pub fn state(&self, place: usize) -> PlaceState
         ensures state { result ≡ state_of self.now place }
-        ensures queued_once { result ≡ State.Queued → times place self.now.queue ≡ 1 }
-        ensures not_queued { result ≢ State.Queued → times place self.now.queue ≡ 0 }
+        ensures queued_once { result ≡ PlaceState.Queued → times place self.now.queue ≡ 1 }
+        ensures not_queued { result ≢ PlaceState.Queued → times place self.now.queue ≡ 0 }
     {
         match self.states.get(place) {
             Some(state) => *state,
-            None => State::Closed,
+            None => PlaceState::Closed,
         }
     }
 
@@ -157,11 +157,11 @@ impl Schedule {
     ///
     /// # Errors
     ///
-    /// `Stopped` after [`Schedule::stop`], otherwise `Full` if the most places are open, and
-    /// otherwise `OutOfMemory` if an allocation fails. Nothing changes.
+    /// `Stopped` after [`Schedule::stop`], otherwise `Full` if the maximum number of places is
+    /// open, and otherwise `OutOfMemory` if an allocation fails. Nothing changes.
     pub fn open(&mut self) -> Result<usize, OpenError>
         ensures opened { IfOk result (λ place.
-            Changes self.old self.new place State.Closed State.Idle) }
+            Changes self.old self.new place PlaceState.Closed PlaceState.Idle) }
         ensures not_reused { IfOk result (λ place. times place self.old.gone ≡ 0) }
         ensures rest { OnOk result (self.new ≡ record self.old { states = self.new.states }) }
         ensures counted { OnOk result (open_count self.new ≡ open_count self.old + 1) }
@@ -189,7 +189,7 @@ impl Schedule {
     fn reuse(&mut self) -> Option<usize>
         requires { open_count self.old < self.old.most }
         ensures opened { IfSome result (λ place.
-            Changes self.old self.new place State.Closed State.Idle) }
+            Changes self.old self.new place PlaceState.Closed PlaceState.Idle) }
         ensures not_reused { IfSome result (λ place. times place self.old.gone ≡ 0) }
         ensures rest { OnSome result (self.new ≡ record self.old { states = self.new.states }) }
         ensures counted { OnSome result (open_count self.new ≡ open_count self.old + 1) }
@@ -201,7 +201,7 @@ impl Schedule {
         let place = self.free.pop_front()?;
         self.reusable -= 1;
         self.count += 1;
-        self.states[place] = State::Idle;
+        self.states[place] = PlaceState::Idle;
         Some(place)
     }
 
@@ -209,7 +209,7 @@ impl Schedule {
     fn add(&mut self) -> Result<usize, AllocError>
         requires { open_count self.old < self.old.most }
         ensures opened { IfOk result (λ place.
-            Changes self.old self.new place State.Closed State.Idle) }
+            Changes self.old self.new place PlaceState.Closed PlaceState.Idle) }
         ensures not_reused { IfOk result (λ place. times place self.old.gone ≡ 0) }
         ensures rest { OnOk result (self.new ≡ record self.old { states = self.new.states }) }
         ensures counted { OnOk result (open_count self.new ≡ open_count self.old + 1) }
@@ -221,7 +221,7 @@ impl Schedule {
         let room = self.states.capacity();
         self.queue.reserve(room.saturating_sub(self.queue.len()))?;
         self.free.reserve(room.saturating_sub(self.free.len()))?;
-        self.states.push_reserved(State::Idle);
+        self.states.push_reserved(PlaceState::Idle);
         self.count += 1;
         Ok(place)
     }
@@ -241,43 +241,43 @@ impl Schedule {
         }
         let place = self.queue.pop_front()?;
         self.due -= 1;
-        self.states[place] = State::Idle;
+        self.states[place] = PlaceState::Idle;
         Some(place)
     }
 
-    /// Queues an idle place behind all others. It is visited in the next round. Nothing changes if
+    /// Queues an idle place after all others. It is visited in the next round. Nothing changes if
     /// the place is not idle.
     pub fn enqueue(&mut self, place: usize)
-        ensures queued { state_of self.old place ≡ State.Idle →
-            Changes self.old self.new place State.Idle State.Queued }
-        ensures last { state_of self.old place ≡ State.Idle →
+        ensures queued { state_of self.old place ≡ PlaceState.Idle →
+            Changes self.old self.new place PlaceState.Idle PlaceState.Queued }
+        ensures last { state_of self.old place ≡ PlaceState.Idle →
             self.new ≡ queued_last place self.new.states self.old }
         ensures same_due { due_of self.new ≡ due_of self.old }
         ensures counted { open_count self.new ≡ open_count self.old }
-        ensures not_idle { state_of self.old place ≢ State.Idle → self.new ≡ self.old }
+        ensures not_idle { state_of self.old place ≢ PlaceState.Idle → self.new ≡ self.old }
     {
-        if let State::Idle = self.state(place) {
+        if let PlaceState::Idle = self.state(place) {
             self.queue.push_back_reserved(place);
-            self.states[place] = State::Queued;
+            self.states[place] = PlaceState::Queued;
         }
     }
 
     /// Closes an open place, and removes it from the queue. If accepting failed before, it is tried
     /// again. Nothing changes if the place is closed.
     pub fn close(&mut self, place: usize)
-        ensures closed { state_of self.new place ≡ State.Closed }
+        ensures closed { state_of self.new place ≡ PlaceState.Closed }
         ensures others { (other : ℕ) → other ≢ place →
             state_of self.new other ≡ state_of self.old other }
         ensures queue { self.new.queue ≡ without place self.old.queue }
         ensures due { due_of self.new ≡ without place (due_of self.old) }
-        ensures was_open { state_of self.old place ≢ State.Closed →
+        ensures was_open { state_of self.old place ≢ PlaceState.Closed →
             Closes self.old self.new place }
-        ensures was_closed { state_of self.old place ≡ State.Closed → self.new ≡ self.old }
+        ensures was_closed { state_of self.old place ≡ PlaceState.Closed → self.new ≡ self.old }
     {
         match self.state(place) {
-            State::Closed => {}
-            State::Idle => self.close_idle(place),
-            State::Queued => {
+            PlaceState::Closed => {}
+            PlaceState::Idle => self.close_idle(place),
+            PlaceState::Queued => {
                 self.dequeue(place);
                 self.close_idle(place);
             }
@@ -286,8 +286,8 @@ impl Schedule {
 
     /// Removes a place from the queue. The place is idle now.
     fn dequeue(&mut self, place: usize)
-        requires { state_of self.old place ≡ State.Queued }
-        ensures idle { Changes self.old self.new place State.Queued State.Idle }
+        requires { state_of self.old place ≡ PlaceState.Queued }
+        ensures idle { Changes self.old self.new place PlaceState.Queued PlaceState.Idle }
         ensures queue { self.new.queue ≡ without place self.old.queue }
         ensures due { due_of self.new ≡ without place (due_of self.old) }
         ensures same { (self.new.gone ≡ self.old.gone) × (self.new.backlog ≡ self.old.backlog) ×
@@ -295,17 +295,17 @@ impl Schedule {
         ensures counted { open_count self.new ≡ open_count self.old }
     {
         self.due = queue::remove(&mut self.queue, self.due, place);
-        self.states[place] = State::Idle;
+        self.states[place] = PlaceState::Idle;
     }
 
     /// Closes an idle place. If accepting failed before, it is tried again.
     fn close_idle(&mut self, place: usize)
-        requires { state_of self.old place ≡ State.Idle }
-        ensures closed { Changes self.old self.new place State.Idle State.Closed }
+        requires { state_of self.old place ≡ PlaceState.Idle }
+        ensures closed { Changes self.old self.new place PlaceState.Idle PlaceState.Closed }
         ensures rest { Closes self.old self.new place }
         ensures same_queue { (self.new.queue ≡ self.old.queue) × (self.new.due ≡ self.old.due) }
     {
-        self.states[place] = State::Closed;
+        self.states[place] = PlaceState::Closed;
         self.free.push_back_reserved(place);
         self.count -= 1;
         self.backlog = self.backlog.resumed();

@@ -3,14 +3,14 @@ use Rattle.std.proofs.Common.{arith, length, length-drop, take, drop, ◌≡◌,
 use Rattle.std.specs.Map.{lookup, set_value}
 use Rattle.std.proofs.lemmas.List.{drop_all, take-append-drop}
 use Rattle.resp_value.specs.Bounds.{Bounds}
-use Rattle.resp_value.specs.Devices.{Appends}
+use Rattle.resp_io.specs.Devices.{Appends}
 use Rattle.resp_session.specs.Stores.{Store}
 use Rattle.resp_server.specs.Hubs.{HubState, Seat, seat_of, seated}
 use Rattle.resp_server.specs.Sending.{HasSent, HasSentPart}
 use Rattle.resp_server.specs.declared.session.Session.{Session}
 use Rattle.resp_server.proofs.Seats.{is_id, same_seat, seat_is, seated_is, state_of}
-use Rattle.resp_turns.specs.declared.write.Written.{Written}
-use Rattle.resp_turns.proofs.Turning.{on_err, on_ok}
+use Rattle.resp_io.specs.declared.write.Written.{Written}
+use Rattle.resp_io.proofs.Turning.{on_err, on_ok}
 
 -- this many of the bytes that waited in a session were written, and no longer wait
 session_sent : {hub : HubState} (limits : Bounds) (es : List (ℕ × Session)) (store : Store) (last : ℕ) → state_of limits es store last ≡ hub →

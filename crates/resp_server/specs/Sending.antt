@@ -1,7 +1,7 @@
 -- The effect on a hub of writing the bytes that wait in a session.
 use Rattle.std.specs.Prelude.{◌≡◌, ℕ, ◌<◌, Bool, List, ◌++◌, length, Option, Some}
 use Rattle.std.specs.Option.{option_map}
-use Rattle.resp_value.specs.Devices.{Appends}
+use Rattle.resp_io.specs.Devices.{Appends}
 use Rattle.resp_server.specs.Hubs.{HubState, Seat, seat_at, seated}
 
 -- whether the session is closing

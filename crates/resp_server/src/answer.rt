@@ -13,9 +13,9 @@ use crate::turn::take_turn;
 use resp_session::laws;
 use std::hash::BuildHasher;
 
-/// Answers what is complete with a piece, value by value, while at most `held` bytes wait. The rest of
-/// the piece is not used. When out of memory, the session is closing, and the error has the number of
-/// commands run before.
+/// Responds to the values that are complete with a piece, one by one, while at most `held` bytes
+/// wait. The rest of the piece is not used. When out of memory, the session is closing, and the
+/// error has the number of commands run before.
 pub(crate) fn answer<S: BuildHasher>(
     shared: &mut Shared<S>,
     session: &mut Session,

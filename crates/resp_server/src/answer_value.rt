@@ -19,7 +19,7 @@ use crate::session::Session;
 use crate::shared::Shared;
 use crate::words::Words;
 use resp_session::laws;
-use resp_session::words::{Asked, asked_by};
+use resp_session::words::{Requested, asked_by};
 use resp_value::value::Value;
 use std::alloc::AllocError;
 use std::hash::BuildHasher;
@@ -48,8 +48,8 @@ pub(crate) fn run_command<S: BuildHasher>(
     run(operation, shared, session)
 }
 
-/// Answers a value that was read, and returns the number of commands that were run, 0 or 1. When
-/// out of memory, the store, the session's version and the waiting bytes are unchanged.
+/// Responds to a value that was read, and returns the number of commands that were run, 0 or 1.
+/// When out of memory, the store, the session's version and the waiting bytes are unchanged.
 pub(crate) fn answer_value<S: BuildHasher>(
     value: Value,
     shared: &mut Shared<S>,
@@ -72,13 +72,13 @@ pub(crate) fn answer_value<S: BuildHasher>(
     laws::a_command_is_its_words();
     shared.limits.are_in_range();
     match asked_by(value) {
-        Asked::Command(words) => {
+        Requested::Command(words) => {
             let arguments = Words::Read(&words, 1);
             run_command(words.word(0), arguments, shared, session)?;
             Ok(1)
         }
-        Asked::Nothing => Ok(0),
-        Asked::NoCommand => {
+        Requested::Nothing => Ok(0),
+        Requested::NoCommand => {
             fault(&mut session.out, b"NotCommand", 0)?;
             session.closing = true;
             Ok(0)

@@ -28,7 +28,7 @@ impl<'a> Model for Entries<'a> {
 }
 
 impl<'a> Entries<'a> {
-    /// Makes an iterator over the rows in the order of the places.
+    /// Creates an iterator over the rows in the order of the places.
     pub(crate) fn new(rows: Slice<'a, Vec<u8>, Row>, places: &'a [Option<usize>]) -> Entries<'a>
         ensures { result ≡ entries_in rows.entry places.now }
     {

@@ -4,10 +4,10 @@ ghost use Rattle.std.specs.Prelude.{◌≡◌, ◌≢◌, ◌+◌, ◌≤◌, �
 ghost use Rattle.std.specs.Option.{option_map};
 ghost use Rattle.resp_value.specs.Canonical.{IsValue, canonical_text};
 ghost use Rattle.resp_value.specs.declared.version.Version.TheVariants.{Three};
-ghost use Rattle.resp_value.specs.Devices.{failures_after};
+ghost use Rattle.resp_io.specs.Devices.{failures_after};
 ghost use Rattle.resp_encode.specs.Pushes.{push_of};
 ghost use Rattle.resp_session.specs.Stores.{value_at};
-ghost use Rattle.resp_turns.specs.Turns.{Halts, Spends, has_failed, stopped_by};
+ghost use Rattle.resp_io.specs.Turns.{Halts, Spends, has_failed, stopped_by};
 ghost use Rattle.resp_server.specs.Answering.{TakesWithin};
 ghost use Rattle.resp_server.specs.PushRefusals.{IsPushVerdict};
 ghost use Rattle.resp_server.specs.Reading.{HasReadFront, HoldsNoIdleDecoder};
@@ -23,8 +23,8 @@ use crate::push::queue_push;
 use crate::session::Session;
 use crate::shared::Shared;
 use crate::store::Store;
-use resp_turns::{Halt, write_text};
-use resp_value::device::Sink;
+use resp_io::device::Sink;
+use resp_io::{Halt, write_text};
 use resp_value::limits::Limits;
 use resp_value::value::Value;
 use resp_value::version::Version;
@@ -40,7 +40,7 @@ pub struct Handled {
     pub commands: u64,
 }
 
-/// The result of giving a session a piece of which not all bytes need be used.
+/// The result of giving a session a piece that may be used only in part.
 #[derive(Clone, Copy, Debug, PartialEq, Eq)]
 pub struct Taken {
     /// The number of bytes that were used, from the beginning of the piece.
@@ -108,7 +108,7 @@ impl<S: BuildHasher> Hub<S> {
     ghost use Rattle.resp_server.specs.Hubs.{HubState, Seat, WaitsAtMost, seat_at, seated, without_seat};
     ghost use Rattle.resp_server.specs.Hubs.{IsOpened, HasNoSessionLeft};
 
-    /// Makes a hub with an empty store and without a session. Its sessions read and write within
+    /// Creates a hub with an empty store and without a session. Its sessions read and write within
     /// these limits. Does not allocate.
     pub fn new(alloc: Global, limits: Limits, hasher: S) -> Hub<S>
         ensures { result ≡ record { limits = limits; sessions = []; store = []; last = 0 } }
@@ -364,7 +364,7 @@ impl<S: BuildHasher> Hub<S> {
 
     /// Gives a session a piece as [`Hub::bytes`] does, but runs no further command when more than
     /// `held` bytes wait to be written. Returns the number of bytes that were used. Give the others
-    /// again once bytes were written. So at most `held` bytes and one reply wait, if no push is
+    /// again after bytes were written. So at most `held` bytes and one reply wait, if no push is
     /// queued.
     ///
     /// # Errors

@@ -38,7 +38,7 @@ impl Model for Reader {
 }
 
 impl Reader {
-    /// Makes a reader that has read nothing. Does not allocate.
+    /// Creates a reader that has read nothing. Does not allocate.
     pub(crate) fn new() -> Reader
         ensures no_decoder { result ≡ None }
         ensures reading { (rules : Rules) → ReadsBy rules result }

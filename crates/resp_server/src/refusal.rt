@@ -24,7 +24,7 @@ pub(crate) enum Verb {
     Hello,
 }
 
-/// Why a command has an error reply.
+/// Why a command gets an error.
 #[derive(Clone, Copy, Debug, PartialEq, Eq)]
 pub(crate) enum Refusal {
     /// It has too few or too many words.

@@ -11,6 +11,7 @@ ghost use Rattle.resp_server.specs.ReplyTexts.{fault_text, greeting_begin, greet
 use bytes::BytesMut;
 use itoa::Buffer;
 use resp_encode::{EncodeError, encode};
+use resp_value::laws;
 use resp_value::limits::Limits;
 use resp_value::value::Value;
 use resp_value::version::Version;
@@ -40,13 +41,13 @@ pub(crate) fn reply(
     }
 }
 
-/// The most bytes of the reply to a number of 64 bits.
+/// The maximum number of bytes of the reply to a number of 64 bits.
 pub(crate) const NUMBER_ROOM: usize = 23;
 
-/// The bytes of HELLO's reply beside the number.
+/// The number of bytes of HELLO's reply without the number.
 const GREETING_ROOM: usize = 150;
 
-/// The bytes of the error reply to a protocol error beside the name, and the most of its number.
+/// The maximum number of bytes of the error reply to a protocol error without the name.
 const FAULT_ROOM: usize = 52;
 
 /// Appends the reply to a number, the same in both versions.
@@ -69,6 +70,7 @@ pub(crate) fn reserved_number(out: &mut BytesMut, number: u64)
     requires room { 23 ≤ out.old.spare }
     ensures { out.new.items ≡ out.old.items ++ canonical_text Two (natural number) }
 {
+    laws::digits_are_those_of_std();
     append_number(out, b":", number);
 }
 
@@ -98,6 +100,7 @@ pub fn greeting(out: &mut BytesMut, version: Version, id: u64) -> Result<(), All
 {
     out.reserve(GREETING_ROOM + NUMBER_ROOM)?;
     out.extend_reserved(greeting_begin(version));
+    laws::digits_are_those_of_std();
     append_number(out, b":", id);
     out.extend_reserved(greeting_end());
     Ok(())
@@ -127,7 +130,7 @@ fn greeting_end() -> &'static [u8]
 }
 
 /// Appends the error reply to a protocol error of this name at this byte of a value, the same in
-/// both versions. It has at most 52 bytes beside the name.
+/// both versions. It has at most 52 bytes without the name.
 ///
 /// # Errors
 ///
@@ -141,6 +144,7 @@ pub fn fault(out: &mut BytesMut, name: &[u8], at: u64) -> Result<(), AllocError>
     out.reserve(name.len().saturating_add(FAULT_ROOM))?;
     out.extend_reserved(b"-ERR Protocol error: ");
     out.extend_reserved(name);
+    laws::digits_are_those_of_std();
     append_number(out, b" at byte ", at);
     Ok(())
 }

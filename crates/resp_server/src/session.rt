@@ -27,7 +27,7 @@ pub(crate) struct Session {
 }
 
 impl Session {
-    /// Makes a session that has read nothing. Does not allocate.
+    /// Creates a session that has read nothing. Does not allocate.
     pub(crate) fn new(alloc: Global, id: u64) -> Session
         requires { id < 2 ^ 63 }
         ensures id { result.id ≡ id }

@@ -43,7 +43,7 @@ impl<S: BuildHasher> Model for Store<S> {
 }
 
 impl<S: BuildHasher> Store<S> {
-    /// Makes an empty store. Does not allocate.
+    /// Creates an empty store. Does not allocate.
     pub(crate) fn new(alloc: Global, hasher: S) -> Store<S>
         ensures { result ≡ [] }
     {

@@ -26,7 +26,7 @@ impl Model for Stored {
 }
 
 impl Stored {
-    /// Makes a stored value of the given bytes. Does not allocate.
+    /// Creates a stored value of the given bytes. Does not allocate.
     pub(crate) fn new(content: Content) -> Stored
         ensures { result ≡ content_bytes content }
     {

@@ -53,7 +53,7 @@ pub(crate) fn take_turn<S: BuildHasher>(
 }
 
 /// Reads with the decoder, and responds to the value or the fault. It is not inlined, since most
-/// commands lie completely in a piece.
+/// commands are completely in a piece.
 #[inline(never)]
 fn read_turn<S: BuildHasher>(
     shared: &mut Shared<S>,

@@ -12,7 +12,7 @@ use resp_session::words as read;
 #[derive(Drop)]
 pub(crate) enum Words<'a> {
     /// They are in the piece.
-    Lent(whole::Words<'a>),
+    Lent(whole::CommandArguments<'a>),
     /// The decoder has read them. The number counts the words taken.
     Read(&'a read::Words, usize),
 }

@@ -40,7 +40,7 @@ pub fn answers_end()
     grammar::fronts_of_spellings_are_viable();
 }
 
-/// The response to a text does not depend on the output written and the commands run before.
+/// The response to a text does not depend on the output written or the commands run before.
 pub fn answers_are_added()
     ensures { AnswersAreAdded }
 {}

@@ -32,7 +32,7 @@ impl Model for Words {
 
 /// The request that a value received by a server makes.
 #[derive(Drop)]
-pub enum Asked {
+pub enum Requested {
     /// A command with its words, the name first.
     Command(Words),
     /// No request: an empty array or a null. The server ignores it.
@@ -54,17 +54,17 @@ ghost use Rattle.resp_session.specs.Asked.{meaning_in, IfCommand};
 ///
 /// ```rust
 /// match asked_by(value) {
-///     Asked::Command(words) => println!(rt; "command {}", words.word(0).escape_ascii())?,
-///     Asked::Nothing => println!(rt; "nothing")?,
-///     Asked::NoCommand => println!(rt; "not a command")?,
+///     Requested::Command(words) => println!(rt; "command {}", words.word(0).escape_ascii())?,
+///     Requested::Nothing => println!(rt; "nothing")?,
+///     Requested::NoCommand => println!(rt; "not a command")?,
 /// }
 /// ```
-pub fn asked_by(value: Value) -> Asked
+pub fn asked_by(value: Value) -> Requested
     ensures meaning { meaning_in result ≡ meaning_of (datum_of value) }
     ensures has_name { IfCommand result (λ words. 0 < length words) }
 {
     match value {
-        Value::Null => Asked::Nothing,
+        Value::Null => Requested::Nothing,
         Value::Array(members) => asked_by_members(members.into_vec()),
         Value::Bool(_)
         | Value::Int(_)
@@ -78,23 +78,23 @@ pub fn asked_by(value: Value) -> Asked
         | Value::Set(_)
         | Value::Map(_)
         | Value::Attr(_, _)
-        | Value::Push(_) => Asked::NoCommand,
+        | Value::Push(_) => Requested::NoCommand,
     }
 }
 
 /// Returns the request that an array of the given members makes.
-fn asked_by_members(members: Vec<Value>) -> Asked
+fn asked_by_members(members: Vec<Value>) -> Requested
     ensures meaning { meaning_in result ≡
         array_meaning (bulk_contents (data_of_list (map datum_of members.items))) }
     ensures has_name { IfCommand result (λ words. 0 < length words) }
 {
     if members.is_empty() {
-        return Asked::Nothing;
+        return Requested::Nothing;
     }
     if are_bulks(members.as_slice()) {
-        Asked::Command(Words { members })
+        Requested::Command(Words { members })
     } else {
-        Asked::NoCommand
+        Requested::NoCommand
     }
 }
 

@@ -1,7 +1,7 @@
 -- The bytes that a side has sent of a value, after a call.
 use Rattle.std.proofs.Common.{◌≡◌, ℕ, List, [], ◌++◌, take, Option, None, Some, Box, Global, refl, sym, subst}
 use Rattle.std.specs.Prelude.{MatchOption}
-use Rattle.resp_cut.specs.declared.cut_value.CutValue.{CutValue}
+use Rattle.resp_value.specs.declared.cut_value.CutValue.{CutValue}
 use Rattle.resp_value.specs.Rules.{Rules}
 use Rattle.resp_decode.specs.CutDecoding.{GivesCut, HasTaken}
 use Rattle.resp_decode.specs.Decoding.{TakesPiece}

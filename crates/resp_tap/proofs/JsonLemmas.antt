@@ -3,8 +3,8 @@ use Rattle.std.proofs.Common.{◌≡◌, ◌∙◌, ℕ, suc, ◌≤◌, ◌<◌
 use Rattle.std.specs.Prelude.{Some, if◌then◌else◌, nat_le}
 use Rattle.std.proofs.lemmas.Bool.{leb-true, leb-false}
 use Rattle.std.proofs.lemmas.List.{get_or-take, length-take, take_all, take-take}
-use Rattle.resp_cut.specs.Cuts.{cut, cut_scalar}
-use Rattle.resp_cut.specs.declared.cut_value.CutValue.{CutValue}
+use Rattle.resp_value.specs.Cuts.{cut, cut_scalar}
+use Rattle.resp_value.specs.declared.cut_value.CutValue.{CutValue}
 use Rattle.resp_json.specs.Json.{text_json}
 use Rattle.resp_value.specs.Attributes.{without_attributes}
 use Rattle.resp_value.specs.Data.{Datum, Scalar}
@@ -67,7 +67,7 @@ error_kept x = ap plain_error (plain_kept 1024 x) ∙ plain_error_kept 1024 (wit
 
 answer_kept : (facts : Facts) (x : Datum) → answer_json facts (cut 1024 x) ≡ answer_json facts x
 answer_kept facts x = λ i. codes ",\"type\":\"" ++ (type_kept 1024 x i ++ (number_json (codes "\",\"size\":") facts.size ++
-    ((ap (member_json (codes ",\"error\":")) (error_kept x) ∙ member_kept (codes ",\"error\":") (error_text x)) i ++ end_json facts.of_day)))
+    ((ap (member_json (codes ",\"error\":")) (error_kept x) ∙ member_kept (codes ",\"error\":") (error_text x)) i ++ end_json facts.utc)))
 
 answer_as : (facts : Facts) (whole : Datum) (kept : CutValue) → IsKeptOf (Some 1024) whole kept → answer_json facts (datum_of kept.value) ≡ answer_json facts whole
 answer_as facts whole kept is = ap (answer_json facts) is.value ∙ answer_kept facts whole

@@ -5,9 +5,9 @@ use Rattle.std.specs.Char.{to_ascii_lowercase}
 use Rattle.std.specs.Option.{ForSome}
 use Rattle.std.specs.Str.{bytes_eq}
 use Rattle.std.proofs.lemmas.List.{take-map}
-use Rattle.resp_cut.specs.Cuts.{IsCutOf, cut, cut_each}
-use Rattle.resp_cut.specs.declared.cut_value.CutValue.{CutValue}
-use Rattle.resp_cut.proofs.Cutting.{short_texts_are_kept}
+use Rattle.resp_value.specs.Cuts.{IsCutOf, cut, cut_each}
+use Rattle.resp_value.specs.declared.cut_value.CutValue.{CutValue}
+use Rattle.resp_value.proofs.Cutting.{short_texts_are_kept}
 use Rattle.resp_value.specs.Attributes.{annotated_value, without_attributes}
 use Rattle.resp_value.specs.Bounds.{AreBounds}
 use Rattle.resp_value.specs.Data.{Datum, Data, Array, Set, Map, Attr, Push, scalar, aggregate, none, more, depth, greatest_depth, longest}

@@ -6,8 +6,8 @@ use Rattle.std.specs.List.{AllByRecursion, list_any}
 use Rattle.std.specs.Option.{ForSome}
 use Rattle.std.specs.Str.{bytes_eq}
 use Rattle.std.proofs.lemmas.List.{length-map, take-map}
-use Rattle.resp_cut.specs.Cuts.{kept_part}
-use Rattle.resp_counts.specs.Names.{containers, has_subcommands, name_byte, subcommand_name, table_name}
+use Rattle.resp_value.specs.Cuts.{kept_part}
+use Rattle.resp_stats.specs.Names.{containers, has_subcommands, name_byte, subcommand_name, table_name}
 use Rattle.resp_session.specs.Operations.{is_name}
 use Rattle.resp_value.specs.declared.version.Version.TheVariants.{Two, Three}
 use Rattle.resp_tap.specs.Called.{command_name, upper_word}

@@ -1,10 +1,10 @@
 pub mod SecretWords
-pub mod Visits
 pub mod NoticeMembers
 pub mod LineLemmas
 pub mod KeptLemmas
 pub mod JsonLemmas
 pub mod TimeLemmas
+pub mod DateLemmas
 pub mod Streams
 pub mod KeptItems
 pub mod Counting

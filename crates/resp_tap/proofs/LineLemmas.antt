@@ -10,7 +10,8 @@ use Rattle.resp_value.specs.declared.version.Version.{Version}
 use Rattle.resp_value.specs.declared.version.Version.TheVariants.{Two, Three}
 use Rattle.resp_session.specs.Heard.{is_push}
 use Rattle.resp_tap.specs.Kinds.{command_kind}
-use Rattle.resp_tap.specs.Lines.{LineState, ReadsLine, after_confirmation, after_due, after_reply, confirms, due_confirmed, due_of, has_all, is_confirmation, is_free, is_listening, is_notification, line_after, line_sent, line_with, line_with_all, next_version, number_by_due, number_first, number_for, number_of_reply, numbered, open_after, paired, resumed, subscriptions_by, version_by, version_for}
+use Rattle.resp_tap.specs.Lines.{LineState, ReadsLine, after_confirmation, after_due, after_reply, confirms, due_confirmed, due_of, has_all, is_confirmation, is_free, is_listening, is_notification, line_after, line_sent, line_with, line_with_all, next_version, number_by_due, number_by_first, number_first, number_for, number_of_reply, numbered, open_after, paired, resumed, subscriptions_by, version_by, version_for}
+use Rattle.resp_tap.specs.LinesOf.{first_of}
 use Rattle.resp_tap.specs.Notices.{notice_of}
 use Rattle.resp_tap.specs.declared.kind.CommandKind.{CommandKind}
 use Rattle.resp_tap.specs.declared.kind.CommandKind.TheVariants.{Plain, Hello, Reset, Silent, Subscribing, Unpairing}
@@ -65,6 +66,28 @@ after_is l x found = ap (λ b. if b then l else after_due l l.due (notice_of x) 
 
 pub number_is : (l : LineState) (x : Datum) → l.is_lost ≡ false → number_for l x ≡ number_by_due l.due (notice_of x) (is_free l x) (is_push x)
 number_is l x found = ap (λ b. if b then None else number_by_due l.due (notice_of x) (is_free l x) (is_push x)) found
+
+-- the number of a value that may be the reply to the first command that waits
+abbrev due_or : Due → Option Due → Due
+due_or other None = other
+due_or other (Some first) = first
+
+number_by_taken : (due : List Due) (first : Due) (what : Notice) (free push : Bool) (r : Option ℕ) → first_of due ≡ Some first →
+    confirms first.kind what ≡ false → free ≡ false → ((rest : List Due) → due ≡ first ∷ rest → r ≡ number_of_reply first first.kind rest what) →
+    r ≡ number_by_due due what free push
+number_by_taken [] first what free push r is other not_free says = absurd (cc)
+number_by_taken (head ∷ rest) first what free push r is other not_free says =
+    let same : head ≡ first = ap (due_or head) is in
+    says rest (ap (λ d. d ∷ rest) same) ∙
+    sym (ap (λ b. if b then (if push then None else Some first.number) else if free then None else number_of_reply first first.kind rest what) other ∙
+    ap (λ b. if b then None else number_of_reply first first.kind rest what) not_free) ∙
+    ap (λ (d : Due). number_by_first d rest what free push) (sym same)
+
+pub number_taken : (l : LineState) (x : Datum) (first : Due) (r : Option ℕ) → l.is_lost ≡ false → first_of l.due ≡ Some first →
+    confirms first.kind (notice_of x) ≡ false → is_free l x ≡ false →
+    ((rest : List Due) → l.due ≡ first ∷ rest → r ≡ number_of_reply first first.kind rest (notice_of x)) → r ≡ number_for l x
+number_taken l x first r found is other not_free says =
+    number_by_taken l.due first (notice_of x) (is_free l x) (is_push x) r is other not_free says ∙ sym (number_is l x found)
 
 stays_lost : (l : LineState) (x : Datum) → l.is_lost ≡ true → (line_after l x).is_lost ≡ true
 stays_lost l x lost = ap (λ b. (if b then l else after_due l l.due (notice_of x) (is_free l x) x).is_lost) lost ∙ lost

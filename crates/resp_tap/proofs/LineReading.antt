@@ -21,16 +21,14 @@ use Rattle.resp_tap.specs.SeenOf.{words_by}
 use Rattle.resp_tap.specs.Lined.{BeginsLine, EndsLine, EndsSo, IsInLine, IsNoLine, TellsLine}
 use Rattle.resp_tap.specs.Taps.{TapState, tap_state, with_refused_command}
 use Rattle.resp_tap.specs.Times.{KeepsTimes}
-use Rattle.resp_tap.specs.Watching.{LacksTime, SeesTimed, RefusesOfRequest, WhereRequested, request_rules}
+use Rattle.resp_tap.specs.Watching.{RefusesOfRequest, SeesRequest, WhereRequested, request_rules}
 use Rattle.resp_tap.specs.declared.lines.Lines.{Lines}
 use Rattle.resp_tap.specs.declared.moment.Moment.{Moment}
-use Rattle.resp_tap.specs.declared.seen.Place.{Place}
 use Rattle.resp_tap.specs.declared.seen.Place.TheVariants as place
 use Rattle.resp_tap.specs.declared.seen.Seen.{Seen}
 use Rattle.resp_tap.specs.declared.seen.Seen.TheVariants as seen
 use Rattle.resp_tap.specs.declared.seen.Step.{Step}
 use Rattle.resp_tap.specs.declared.tap.Tap.{Tap}
-use Rattle.resp_tap.specs.declared.timed.TimedTap.{TimedTap}
 
 -- ---- which bytes belong to a line
 
@@ -81,33 +79,18 @@ no_other words m some other same =
 
 -- ---- what is told at the end of a line
 
-abbrev refused_at : Seen → Cause
-refused_at (seen.Refused cause at where') = cause
-refused_at _ = causes.Syntax
-
-abbrev refused_in : Seen → Place
-refused_in (seen.Refused cause at where') = where'
-refused_in _ = place.Value
-
-abbrev is_refused : Seen → Bool
-is_refused (seen.Refused cause at where') = true
-is_refused _ = false
-
-lacks_none : (s : TapState) (new : Tap) (text : List ℕ) (used : ℕ) (what : Seen) → is_refused what ≡ false → LacksTime s new text used what → ⊥
-lacks_none s new text used what other lacks = let e : true ≡ false = sym (ap is_refused lacks.told) ∙ other in cc
-
-pub line_told : NoSpellingBeginsAnother → (now : Option Moment) (old new : TimedTap) (line text : List ℕ) (words : List (List ℕ)) (used : ℕ) (what : Seen) →
+pub line_told : NoSpellingBeginsAnother → (now : Option Moment) (old new : Tap) (line text : List ℕ) (words : List (List ℕ)) (used : ℕ) (what : Seen) →
     0 < length words → AreWords words line → text ≡ canonical_text Two (command_of words) →
-    IsSpelling (request_rules (tap_state old.tap).limits) (command_of words) text → KeepsTimes now old new →
-    SeesTimed now (tap_state old.tap) new.tap [] text used what → EndsSo now line old new what
-line_told unique now old new line text words used seen.Nothing some are same spelled times (inl sees) =
+    IsSpelling (request_rules (tap_state old).limits) (command_of words) text → KeepsTimes now old new →
+    SeesRequest (tap_state old) new [] text used what → EndsSo now line old new what
+line_told unique now old new line text words used seen.Nothing some are same spelled times sees =
     absurd (sees.no_value (length text) spelled.tree (subst (Spells spelled.tree) (sym (take_all (length text) text (omega arith))) spelled.spells))
-line_told unique now old new line text words used seen.Passed some are same spelled times (inl sees) =
-    absurd (no_other words Nothing some refl (sym sees.means ∙ only_value unique (tap_state old.tap) words text used sees.value spelled sees.spelled ∙
+line_told unique now old new line text words used seen.Passed some are same spelled times sees =
+    absurd (no_other words Nothing some refl (sym sees.means ∙ only_value unique (tap_state old) words text used sees.value spelled sees.spelled ∙
     call_is words some))
-line_told unique now old new line text words used (seen.Command number words' lengths) some are same spelled times (inl sees) =
+line_told unique now old new line text words used (seen.Command number words' lengths) some are same spelled times sees =
     let equal : words ≡ sees.whole = same_words words sees.whole some sees.some
-    (sym (call_is words some) ∙ sym (only_value unique (tap_state old.tap) words text used sees.value spelled sees.spelled) ∙ sees.means) in record {
+    (sym (call_is words some) ∙ sym (only_value unique (tap_state old) words text used sees.value spelled sees.spelled) ∙ sees.means) in record {
       whole = sees.whole;
       some = sees.some;
       are = subst (λ ws. AreWords ws line) equal are;
@@ -117,36 +100,17 @@ line_told unique now old new line text words used (seen.Command number words' le
       takes = sees.takes;
       times = times;
     }
-line_told unique now old new line text words used (seen.NotCommand number) some are same spelled times (inl sees) =
-    absurd (no_other words NoCommand some refl (sym sees.means ∙ only_value unique (tap_state old.tap) words text used sees.value spelled sees.spelled ∙
+line_told unique now old new line text words used (seen.NotCommand number) some are same spelled times sees =
+    absurd (no_other words NoCommand some refl (sym sees.means ∙ only_value unique (tap_state old) words text used sees.value spelled sees.spelled ∙
     call_is words some))
-line_told unique now old new line text words used (seen.Refused cause at where') some are same spelled times (inl sees) = record {
-  why = inr (inr (words, used, are, subst (λ t. RefusesOfRequest (tap_state old.tap) [] t used cause at) same sees.refused));
+line_told unique now old new line text words used (seen.Refused cause at where') some are same spelled times sees = record {
+  why = inr (inr (words, used, are, subst (λ t. RefusesOfRequest (tap_state old) [] t used cause at) same sees.refused));
   place = sees.place;
   after = sees.after;
 }
-line_told unique now old new line text words used (seen.Reply number kept) some are same spelled times (inl sees) = absurd sees
-line_told unique now old new line text words used (seen.Push members lengths) some are same spelled times (inl sees) = absurd sees
-line_told unique now old new line text words used (seen.Value kept) some are same spelled times (inl sees) = absurd sees
-line_told unique now old new line text words used (seen.Refused cause at where') some are same spelled times (inr lacks) = record {
-  why = inr (inl (inl (ap refused_at lacks.1.told)));
-  place = ap refused_in lacks.1.told;
-  after = lacks.1.after;
-}
-line_told unique now old new line text words used seen.Nothing some are same spelled times (inr lacks) =
-    absurd (lacks_none (tap_state old.tap) new.tap text used seen.Nothing refl lacks.1)
-line_told unique now old new line text words used seen.Passed some are same spelled times (inr lacks) =
-    absurd (lacks_none (tap_state old.tap) new.tap text used seen.Passed refl lacks.1)
-line_told unique now old new line text words used (seen.Command number words' lengths) some are same spelled times (inr lacks) =
-    absurd (lacks_none (tap_state old.tap) new.tap text used (seen.Command number words' lengths) refl lacks.1)
-line_told unique now old new line text words used (seen.NotCommand number) some are same spelled times (inr lacks) =
-    absurd (lacks_none (tap_state old.tap) new.tap text used (seen.NotCommand number) refl lacks.1)
-line_told unique now old new line text words used (seen.Reply number kept) some are same spelled times (inr lacks) =
-    absurd (lacks_none (tap_state old.tap) new.tap text used (seen.Reply number kept) refl lacks.1)
-line_told unique now old new line text words used (seen.Push members lengths) some are same spelled times (inr lacks) =
-    absurd (lacks_none (tap_state old.tap) new.tap text used (seen.Push members lengths) refl lacks.1)
-line_told unique now old new line text words used (seen.Value kept) some are same spelled times (inr lacks) =
-    absurd (lacks_none (tap_state old.tap) new.tap text used (seen.Value kept) refl lacks.1)
+line_told unique now old new line text words used (seen.Reply number kept) some are same spelled times sees = absurd sees
+line_told unique now old new line text words used (seen.Push members lengths) some are same spelled times sees = absurd sees
+line_told unique now old new line text words used (seen.Value kept) some are same spelled times sees = absurd sees
 
 -- ---- the bytes of a line
 
@@ -168,10 +132,10 @@ without_lf_before piece end (first, at) =
     (sym (get_or-take end piece k 0 (subst (λ n. k < n) size below)) ∙ found))
 
 -- a line is too long, or memory for its bytes is out
-pub line_refused : (now : Option Moment) (lines lines' : Lines) (old new : TimedTap) (piece last rest : List ℕ) (result : Step) (cause : Cause) (at : ℕ) →
+pub line_refused : (now : Option Moment) (lines lines' : Lines) (old new : Tap) (piece last rest : List ℕ) (result : Step) (cause : Cause) (at : ℕ) →
     piece ≡ last ++ rest → AllByRecursion (λ b. b ≢ 10) last →
-    result ≡ record { used = length piece; seen = seen.Refused cause at (place.Command ((tap_state old.tap).commands + 1)) } →
-    tap_state new.tap ≡ with_refused_command (tap_state old.tap) →
+    result ≡ record { used = length piece; seen = seen.Refused cause at (place.Command ((tap_state old).commands + 1)) } →
+    tap_state new ≡ with_refused_command (tap_state old) →
     ((cause ≡ causes.OutOfMemory) ⊎ ((cause ≡ causes.Length) × (65536 < length (lines.held.items ++ last)))) →
     TellsLine now lines lines' old new piece result.used result.seen
 line_refused now lines lines' old new piece last rest result cause at begins none is after why =
@@ -188,7 +152,7 @@ line_refused now lines lines' old new piece last rest result cause at begins non
       read = λ on. absurd (let e : true ≡ false = sym on ∙ ap (λ (s : TapState). s.reads_commands) after in cc);
     })
 
-by_end : (now : Option Moment) (lines lines' : Lines) (old new : TimedTap) (piece line : List ℕ) (used : ℕ) (what : Seen) → EndsSo now line old new what →
+by_end : (now : Option Moment) (lines lines' : Lines) (old new : Tap) (piece line : List ℕ) (used : ℕ) (what : Seen) → EndsSo now line old new what →
     EndsLine now lines lines' old new piece used what → TellsLine now lines lines' old new piece used what
 by_end now lines lines' old new piece line used seen.Nothing so ends = absurd so
 by_end now lines lines' old new piece line used seen.Passed so ends = ends
@@ -200,7 +164,7 @@ by_end now lines lines' old new piece line used (seen.Push members lengths) so e
 by_end now lines lines' old new piece line used (seen.Value kept) so ends = ends
 
 -- a line ends in the piece
-pub line_ended : (now : Option Moment) (lines lines' : Lines) (old new : TimedTap) (piece line : List ℕ) (end used : ℕ) (what : Seen) →
+pub line_ended : (now : Option Moment) (lines lines' : Lines) (old new : Tap) (piece line : List ℕ) (end used : ℕ) (what : Seen) →
     IsFirstByte (is_byte 10) piece (Some end) → line ≡ lines.held.items ++ take end piece → used ≡ end + 1 → lines'.held.items ≡ [] →
     EndsSo now line old new what → TellsLine now lines lines' old new piece used what
 line_ended now lines lines' old new piece line end used what (first, at) is counted none so =

@@ -3,7 +3,7 @@ use Rattle.std.proofs.Common.{arith, ◌≡◌, ◌∙◌, ◌⊎◌, inl, inr, 
 use Rattle.std.specs.Prelude.{None, Some, Result}
 use Rattle.std.specs.Result.{is_err}
 use Rattle.std.proofs.lemmas.List.{append-nil, length-append, take-append-le, take_min}
-use Rattle.resp_value.specs.Devices.{Appends}
+use Rattle.resp_io.specs.Devices.{Appends}
 use Rattle.resp_print.specs.Written.{WritesText}
 
 -- these bytes were written of a text, or the whole text if no write failed

@@ -4,7 +4,7 @@ use Rattle.std.specs.Prelude.{Result, None, Some, if◌then◌else◌}
 use Rattle.std.specs.List.{AllByRecursion}
 use Rattle.std.proofs.lemmas.List.{append-nil, length-append, map-append, take-append-drop, take-append-le, take_all, take_at}
 use Rattle.std.proofs.lemmas.List.Elements.{filter-append}
-use Rattle.resp_cut.specs.declared.cut_value.CutValue.{CutValue}
+use Rattle.resp_value.specs.declared.cut_value.CutValue.{CutValue}
 use Rattle.resp_value.specs.Bounds.{Bounds}
 use Rattle.resp_value.specs.Data.{Datum}
 use Rattle.resp_value.specs.Laws.{VersionThreeSpellsWhatTwoDoes}
@@ -35,7 +35,6 @@ use Rattle.resp_tap.specs.declared.print.Printing.{Printing}
 use Rattle.resp_tap.specs.declared.seen.Seen.{Seen}
 use Rattle.resp_tap.specs.declared.seen.Seen.TheVariants as seen
 use Rattle.resp_tap.specs.declared.tap.Tap.{Tap}
-use Rattle.resp_tap.specs.declared.timed.TimedTap.{TimedTap}
 use Rattle.resp_tap.specs.declared.watch.Side.{Side}
 use Rattle.resp_tap.specs.declared.watch.Side.TheVariants.{Client, Server}
 use Rattle.resp_tap.proofs.LineLemmas.{after_open, asking_more, at_least_by, longer, next_is, paired_go_on, paired_longer, reads_go_on, reads_longer, sent_is, spells_at_least, was_found}
@@ -521,20 +520,16 @@ record Tells (side : Side) (limits : Bounds) (most held : Option ℕ) (x : Told)
   taken : Taken side t own
   so_far : SoFar limits most held x (tap_state t) (by_side side own other) (by_side side other own)
 
-result_tells : VersionThreeSpellsWhatTwoDoes → (side : Side) (limits : Bounds) (most held : Option ℕ) (x : Told) (now : Option Moment) (old new : TimedTap) (piece : List ℕ) (used : ℕ) (what : Seen)
-    (other : List ℕ) → Tells side limits most held x old.tap other → SeesFirst side now old new piece used what → IsNoError what →
-    Tells side limits most held (told_more x side (take used piece) (command_in what) (reply_in what) (push_in what)) new.tap other
+result_tells : VersionThreeSpellsWhatTwoDoes → (side : Side) (limits : Bounds) (most held : Option ℕ) (x : Told) (now : Option Moment) (old new : Tap) (piece : List ℕ) (used : ℕ) (what : Seen)
+    (other : List ℕ) → Tells side limits most held x old other → SeesFirst side now old new piece used what → IsNoError what →
+    Tells side limits most held (told_more x side (take used piece) (command_in what) (reply_in what) (push_in what)) new other
 result_tells laws Client limits most held x now old new piece used what other h sees fine =
     let first = sees.read h.so_far.reads_commands h.own h.taken in
-    elim first.0 [
-      | inl told ↦
-          let (request, taken, so_far) = client_tells laws limits most held x (tap_state old.tap) new.tap h.own other piece used what h.so_far told fine in
-          record { own = request; taken = taken; so_far = so_far }
-      | inr lacks ↦ absurd (subst IsNoError lacks.1.told fine)
-    ]
+    let (request, taken, so_far) = client_tells laws limits most held x (tap_state old) new h.own other piece used what h.so_far first.0 fine in
+    record { own = request; taken = taken; so_far = so_far }
 result_tells laws Server limits most held x now old new piece used what other h sees fine =
     let first = sees.read h.so_far.reads_replies h.own h.taken in
-    let (rest, taken, so_far) = server_tells laws limits most held x (tap_state old.tap) new.tap other h.own piece used what h.so_far first.0 fine in
+    let (rest, taken, so_far) = server_tells laws limits most held x (tap_state old) new other h.own piece used what h.so_far first.0 fine in
     record { own = rest; taken = taken; so_far = so_far }
 
 both_client : (side : Side) (a b : List ℕ) → by_side side a [] ++ by_side side b [] ≡ by_side side (a ++ b) []
@@ -576,21 +571,21 @@ told_twice x side a b whole c d p q u v is =
 abbrev all_told : Told → Side → List ℕ → List Seen → Told
 all_told x side piece what = told_more x side piece (each command_in what) (each reply_in what) (each push_in what)
 
-piece_tells : VersionThreeSpellsWhatTwoDoes → (side : Side) (limits : Bounds) (most held : Option ℕ) (printing : Printing) (now : Option Moment) (what : List Seen) (x : Told) (old new : TimedTap)
+piece_tells : VersionThreeSpellsWhatTwoDoes → (side : Side) (limits : Bounds) (most held : Option ℕ) (printing : Printing) (now : Option Moment) (what : List Seen) (x : Told) (old new : Tap)
     (piece : List ℕ) (before after : Option (List ℕ)) (failures failures' : ℕ) (result : Result (Unit {0}) PrintError) (other : List ℕ) →
-    Tells side limits most held x old.tap other →
+    Tells side limits most held x old other →
     WatchesAll (Watches printing side now) what old new piece before after failures failures' result →
-    AllByRecursion IsNoError what → Tells side limits most held (all_told x side piece what) new.tap other
+    AllByRecursion IsNoError what → Tells side limits most held (all_told x side piece what) new other
 piece_tells laws side limits most held printing now [] x old new piece before after failures failures' result other h watches fine =
     let (none, same, _, _, _) = watches in
-    subst (λ z. Tells side limits most held (told_more x side z [] [] []) new.tap other) (sym none)
-    (subst (λ z. Tells side limits most held z new.tap other) (sym (told_none x side)) (subst (λ (t : TimedTap). Tells side limits most held x t.tap other) (sym same) h))
+    subst (λ z. Tells side limits most held (told_more x side z [] [] []) new other) (sym none)
+    (subst (λ z. Tells side limits most held z new other) (sym (told_none x side)) (subst (λ (t : Tap). Tells side limits most held x t other) (sym same) h))
 piece_tells laws side limits most held printing now (first ∷ what) x old new piece before after failures failures' result other h watches fine =
     let (next, watched, written, failed, later, (sees, prints), is, more) = watches in
     let used = watched.used in
     let now_told = told_more x side (take used piece) (command_in first) (reply_in first) (push_in first) in
     let step = result_tells laws side limits most held x now old next piece used first other h sees fine.0 in
-    subst (λ z. Tells side limits most held z new.tap other)
+    subst (λ z. Tells side limits most held z new other)
     (told_twice x side (take used piece) (drop used piece) piece (command_in first) (each command_in what) (reply_in first) (each reply_in what)
     (push_in first) (each push_in what) (take-append-drop used piece))
     (piece_tells laws side limits most held printing now what now_told next new (drop used piece) written after failed failures' later other step more fine.1)
@@ -604,11 +599,11 @@ record TellsBoth (limits : Bounds) (most held : Option ℕ) (x : Told) (t : Tap)
   answered : HasTakenValue t rest
   so_far : SoFar limits most held x (tap_state t) request rest
 
-arrival_tells : VersionThreeSpellsWhatTwoDoes → (side : Side) (limits : Bounds) (most held : Option ℕ) (printing : Printing) (now : Option Moment) (what : List Seen) (x : Told) (old new : TimedTap)
-    (piece : List ℕ) (before after : Option (List ℕ)) (failures failures' : ℕ) (result : Result (Unit {0}) PrintError) → TellsBoth limits most held x old.tap →
+arrival_tells : VersionThreeSpellsWhatTwoDoes → (side : Side) (limits : Bounds) (most held : Option ℕ) (printing : Printing) (now : Option Moment) (what : List Seen) (x : Told) (old new : Tap)
+    (piece : List ℕ) (before after : Option (List ℕ)) (failures failures' : ℕ) (result : Result (Unit {0}) PrintError) → TellsBoth limits most held x old →
     WatchesAll (Watches printing side now) what old new piece before after failures failures' result →
-    KeepsOther side old.tap new.tap →
-    AllByRecursion IsNoError what → TellsBoth limits most held (all_told x side piece what) new.tap
+    KeepsOther side old new →
+    AllByRecursion IsNoError what → TellsBoth limits most held (all_told x side piece what) new
 arrival_tells laws Client limits most held printing now what x old new piece before after failures failures' result h watches keeps fine =
     let m = piece_tells laws Client limits most held printing now what x old new piece before after failures failures' result h.rest
     (record { own = h.request; taken = h.requested; so_far = h.so_far }) watches fine in
@@ -639,14 +634,14 @@ with_first x a arrivals = λ i. record {
   pushes = append_assoc x.pushes (each push_in a.told) (told push_in arrivals) i;
 }
 
-arrivals_tell : VersionThreeSpellsWhatTwoDoes → (limits : Bounds) (most held : Option ℕ) (arrivals : List Arrival) (x : Told) (old new : TimedTap) → TellsBoth limits most held x old.tap → Arrive old new arrivals → NoError arrivals →
-    TellsBoth limits most held (with_all x arrivals) new.tap
+arrivals_tell : VersionThreeSpellsWhatTwoDoes → (limits : Bounds) (most held : Option ℕ) (arrivals : List Arrival) (x : Told) (old new : Tap) → TellsBoth limits most held x old → Arrive old new arrivals → NoError arrivals →
+    TellsBoth limits most held (with_all x arrivals) new
 arrivals_tell laws limits most held [] x old new h same fine =
-    subst (λ z. TellsBoth limits most held z new.tap) (sym (with_none x)) (subst (λ (t : TimedTap). TellsBoth limits most held x t.tap) (sym same) h)
+    subst (λ z. TellsBoth limits most held z new) (sym (with_none x)) (subst (λ (t : Tap). TellsBoth limits most held x t) (sym same) h)
 arrivals_tell laws limits most held (a ∷ arrivals) x old new h (next, arrives, more) fine =
     let step = arrival_tells laws a.side limits most held arrives.printing arrives.now a.told x old next a.piece arrives.before arrives.after arrives.failures
     arrives.failures' arrives.result h arrives.watched arrives.other_side fine.0 in
-    subst (λ z. TellsBoth limits most held z new.tap) (with_first x a arrivals) (arrivals_tell laws limits most held arrivals (all_told x a.side a.piece a.told) next new step more fine.1)
+    subst (λ z. TellsBoth limits most held z new) (with_first x a arrivals) (arrivals_tell laws limits most held arrivals (all_told x a.side a.piece a.told) next new step more fine.1)
 
 abbrev nothing_told : Told
 nothing_told = record { client = []; commands = []; server = []; replies = []; pushes = [] }
@@ -709,10 +704,10 @@ tells_the_connection three limits most held old new arrivals fresh requested ans
         values = r.values;
         front = r.front;
         rest = m.rest;
-        after = (tap_state new.tap).line;
+        after = (tap_state new).line;
         whole = r.whole;
         reads = r.reads;
-        no_more = rest_is limits (tap_state new.tap) m.rest r.reading;
+        no_more = rest_is limits (tap_state new) m.rest r.reading;
         replies = r.replies;
         pushes = r.pushes;
       },

@@ -1,7 +1,7 @@
 -- The kept part of a value is a command exactly if the value is one, and its words are the kept parts of the words.
 use Rattle.std.proofs.Common.{◌≡◌, ◌≢◌, ◌∙◌, ◌⊎◌, ℕ, ◌+◌, ◌^◌, ◌<◌, ◌≤◌, false, List, [], ◌∷◌, ◌++◌, length, map, Option, refl, sym, ap, subst, arith}
 use Rattle.std.specs.Prelude.{None, Some, option_map}
-use Rattle.resp_cut.specs.Cuts.{cut, cut_each, cut_lengths, kept_part, lengths_of_each, longer}
+use Rattle.resp_value.specs.Cuts.{cut, cut_each, cut_lengths, kept_part, lengths_of_each, longer}
 use Rattle.resp_value.specs.Data.{Datum, Data, Scalar, Array, Set, Map, Attr, Push, scalar, aggregate, none, more}
 use Rattle.resp_session.specs.Commands.{Call, Meaning, NoCommand, Nothing, array_meaning, bulk_content, bulk_contents, contents_with, meaning_of}
 use Rattle.resp_tap.specs.Kinds.{command_kind}
@@ -13,7 +13,7 @@ use Rattle.resp_tap.specs.declared.kind.CommandKind.{CommandKind}
 use Rattle.resp_value.specs.Values.{datum_of}
 use Rattle.resp_value.specs.declared.cause.Cause.{Cause}
 use Rattle.resp_value.specs.declared.cause.Cause.TheVariants as causes
-use Rattle.resp_cut.specs.declared.cut_value.CutValue.{CutValue}
+use Rattle.resp_value.specs.declared.cut_value.CutValue.{CutValue}
 use Rattle.resp_tap.proofs.LineReading.{no_other, same_words}
 
 -- ---- the words of an array

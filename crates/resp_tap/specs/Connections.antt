@@ -12,9 +12,9 @@ use Rattle.resp_tap.specs.declared.watch.Side.{Side}
 
 -- No byte of the connection was read. The lines of its client are commands, and it has no name.
 pub record IsNewConnection (limits : Bounds) (shown kept : Option ℕ) (c : ConnectionTap) : Type 0 where
-  pub nothing_passed : tap_state c.timed.tap ≡ new_tap limits shown kept
-  pub nothing_requested : HasTakenRequest c.timed.tap []
-  pub nothing_answered : HasTakenValue c.timed.tap []
+  pub nothing_passed : tap_state c.tap ≡ new_tap limits shown kept
+  pub nothing_requested : HasTakenRequest c.tap []
+  pub nothing_answered : HasTakenValue c.tap []
   pub reads_lines : c.lines.are_read ≡ true
   pub nothing_held : c.lines.held.items ≡ []
   pub no_name : (naming_of c.name).name ≡ []
@@ -22,5 +22,5 @@ pub record IsNewConnection (limits : Bounds) (shown kept : Option ℕ) (c : Conn
 -- The first result in a piece, and whether it is that of a line. By it the connection may get a name.
 pub record SeesNext (now : Option Moment) (side : Side) (old new : ConnectionTap) (piece : List ℕ) (used : ℕ) (what : Seen)
     (is_line : Bool) : Type 0 where
-  pub seen : SeesLined now side old.lines new.lines old.timed new.timed piece used what is_line
+  pub seen : SeesLined now side old.lines new.lines old.tap new.tap piece used what is_line
   pub name : naming_of new.name ≡ named_after what (naming_of old.name)

@@ -1,6 +1,6 @@
 -- The results that a tap counts for the pieces of either side, and what is printed of them.
-use Rattle.std.specs.Prelude.{ℕ, Bool, List, [], Option, None, Some, Result, if◌then◌else◌}
-use Rattle.resp_counts.specs.declared.row.Row.{Row}
+use Rattle.std.specs.Prelude.{◌≡◌, ℕ, Bool, List, [], Option, None, Some, Result, if◌then◌else◌}
+use Rattle.resp_stats.specs.declared.row.CommandRow.{CommandRow}
 use Rattle.resp_print.specs.Printed.{Prints}
 use Rattle.resp_print.specs.declared.print_error.PrintError.{PrintError}
 use Rattle.resp_tap.specs.Counting.{CountedTap, CountsSeen}
@@ -22,7 +22,7 @@ counted_text f printing now what = if keeps_client f printing.client
 
 -- The first result in a piece: it is reported as without counting, and that of a line too. It is counted.
 pub record SeesCounted (f : Filter) (client : ℕ) (side : Side) (now : Moment) (old new : CountedTap) (piece : List ℕ)
-    (used : ℕ) (what : Seen) (is_line : Bool) (rows rows' : List Row) : Type 0 where
+    (used : ℕ) (what : Seen) (is_line : Bool) (rows rows' : List CommandRow) : Type 0 where
   pub seen : SeesNext (Some now) side old.connection new.connection piece used what is_line
   pub counts : CountsSeen f client side now old new used what rows rows'
 
@@ -32,9 +32,10 @@ abbrev pub PrintsCounted : Filter → Printing → Moment → Seen → Option (L
 PrintsCounted f printing now what before after failures failures' printed =
     Prints before after failures failures' printed (counted_text f printing now what) (levels_of what)
 
--- the first result in a piece is read and counted in these rows, and printed if it is an error
-abbrev pub WatchesCounted : Filter → Printing → Side → Moment → StepOn (CountedTap × List Row)
-WatchesCounted f printing side now (old, rows) (new, rows') piece watched what before after failures failures' =
-    (is_line : Bool) ×
-    SeesCounted f printing.client side now old new piece watched.used what is_line rows rows' ×
-    PrintsCounted f printing now what before after failures failures' watched.printed
+-- The first result in a piece is read and counted in these rows, and printed if it is an error. The filter of the tap
+-- decides, and stays the same.
+abbrev pub WatchesCounted : Printing → Side → Moment → StepOn (CountedTap × List CommandRow)
+WatchesCounted printing side now (old, rows) (new, rows') piece watched what before after failures failures' =
+    (new.filter ≡ old.filter) × (is_line : Bool) ×
+    SeesCounted old.filter printing.client side now old new piece watched.used what is_line rows rows' ×
+    PrintsCounted old.filter printing now what before after failures failures' watched.printed

@@ -1,5 +1,5 @@
 -- The results that a filtered tap reports and prints for the pieces of either side.
-use Rattle.std.specs.Prelude.{ℕ, Bool, List, slice_get, Option, Result}
+use Rattle.std.specs.Prelude.{◌≡◌, ℕ, Bool, List, slice_get, Option, Result}
 use Rattle.resp_value.specs.Data.{Datum}
 use Rattle.resp_print.specs.Printed.{Prints}
 use Rattle.resp_print.specs.declared.print_error.PrintError.{PrintError}
@@ -25,7 +25,7 @@ FilteredTap = KeepingTap Notes
 
 -- what is kept of the command that the next reply belongs to
 abbrev pub note_of : FilteredTap → Option Note
-note_of t = slice_get t.kept.notes.items (next_asked t.connection.timed)
+note_of t = slice_get t.kept.notes.items (next_asked t.connection.tap)
 
 -- The first result in a piece: it is reported as without a filter, and that of a line too. Its command is let through by
 -- its words or is not. What is kept of the commands that wait follows the whole words.
@@ -33,9 +33,9 @@ pub record SeesFiltered (filter : Filter) (printing : Printing) (side : Side) (n
     (piece : List ℕ) (used : ℕ) (what : Seen) (is_line is_chosen : Bool) : Type 0 where
   pub seen : SeesNext now side old.connection new.connection piece used what is_line
   pub chosen : IsChosen filter (note_of old) what is_chosen
-  pub notes : (whole : Datum) → IsKeptIn (tap_state old.connection.timed.tap).shown (tap_state old.connection.timed.tap).kept whole what →
-      NotesAfter filter (options_of printing old.connection.timed.tap) now is_line is_chosen (with_whole whole what) (waits_in old.connection.timed)
-      (waits_in new.connection.timed) old.kept.notes.items new.kept.notes.items
+  pub notes : (whole : Datum) → IsKeptIn (tap_state old.connection.tap).shown (tap_state old.connection.tap).kept whole what →
+      NotesAfter filter (options_of printing old.connection.tap) now is_line is_chosen (with_whole whole what) (waits_in old.connection.tap)
+      (waits_in new.connection.tap) old.kept.notes.items new.kept.notes.items
 
 -- The text of the result is printed as far as the filter lets it through and writes succeed. A reply is judged by what is
 -- kept of its command, and by the time of its command.
@@ -43,14 +43,14 @@ pub record PrintsFiltered (filter : Filter) (printing : Printing) (now : Option 
     (is_line is_chosen : Bool) (before after : Option (List ℕ)) (failures failures' : ℕ)
     (printed : Result (Unit {0}) PrintError) : Type 0 where
   pub asked : Option ℕ
-  pub of_command : IsAskedIn old.connection.timed asked
-  pub text : (whole : Datum) → IsKeptIn (tap_state old.connection.timed.tap).shown (tap_state old.connection.timed.tap).kept whole what →
-      Prints before after failures failures' printed (filtered_text filter (options_of printing old.connection.timed.tap) is_line is_chosen
+  pub of_command : IsAskedIn old.connection.tap asked
+  pub text : (whole : Datum) → IsKeptIn (tap_state old.connection.tap).shown (tap_state old.connection.tap).kept whole what →
+      Prints before after failures failures' printed (filtered_text filter (options_of printing old.connection.tap) is_line is_chosen
       (note_of old) (stamp_of now asked what) whole what) (levels_of what)
 
--- the first result in a piece is read, and printed if the filter lets it through
-abbrev pub WatchesFiltered : Filter → Printing → Side → Option Moment → StepOn FilteredTap
-WatchesFiltered filter printing side now old new piece watched what before after failures failures' =
-    (is_line : Bool) × (is_chosen : Bool) ×
-    SeesFiltered filter printing side now old new piece watched.used what is_line is_chosen ×
-    PrintsFiltered filter printing now old what is_line is_chosen before after failures failures' watched.printed
+-- The first result in a piece is read, and printed if the filter of the tap lets it through. The filter stays the same.
+abbrev pub WatchesFiltered : Printing → Side → Option Moment → StepOn FilteredTap
+WatchesFiltered printing side now old new piece watched what before after failures failures' =
+    (new.filter ≡ old.filter) × (is_line : Bool) × (is_chosen : Bool) ×
+    SeesFiltered old.filter printing side now old new piece watched.used what is_line is_chosen ×
+    PrintsFiltered old.filter printing now old what is_line is_chosen before after failures failures' watched.printed

@@ -6,7 +6,7 @@ use Rattle.resp_value.specs.Causes.{name_of}
 use Rattle.resp_value.specs.Data.{Array, Set, Map, Attr, Push, Scalar, Null, Int, Simple, Error, Double, Bulk, BulkError, Verbatim, Big, Datum, scalar, aggregate}
 use Rattle.resp_value.specs.Data as d
 use Rattle.resp_tap.specs.Called.{command_name}
-use Rattle.resp_tap.specs.Digits.{time_text}
+use Rattle.resp_tap.specs.Digits.{utc_text}
 use Rattle.resp_tap.specs.SeenOf.{words_in}
 use Rattle.resp_tap.specs.declared.end.Cut.{Cut}
 use Rattle.resp_tap.specs.declared.json_line.Facts.{Facts}
@@ -56,9 +56,9 @@ known_json front (Some number) = number_json front number
 abbrev pub front_json : ℕ → List ℕ → List ℕ → List ℕ
 front_json client kind rest = number_json (codes "{\"client\":") client ++ (kind ++ rest)
 
--- the time of day, and the end of a line
+-- the date and the time of day, and the end of a line
 abbrev pub end_json : ℕ → List ℕ
-end_json of_day = codes ",\"time\":\"" ++ (time_text of_day ++ codes "\"}\n")
+end_json utc = codes ",\"time\":\"" ++ (utc_text utc ++ codes "\"}\n")
 
 -- ---- values
 
@@ -99,12 +99,12 @@ error_text x = plain_error (without_attributes x)
 
 -- the type and the bytes of a value, and the end of its line
 abbrev pub value_json : List ℕ → List ℕ → ℕ → ℕ → List ℕ
-value_json word error size of_day =
-    codes ",\"type\":\"" ++ (word ++ (number_json (codes "\",\"size\":") size ++ (member_json (codes ",\"error\":") error ++ end_json of_day)))
+value_json word error size utc =
+    codes ",\"type\":\"" ++ (word ++ (number_json (codes "\",\"size\":") size ++ (member_json (codes ",\"error\":") error ++ end_json utc)))
 
 -- the type and the bytes of a value, its text if it is an error, and the end of its line
 abbrev pub answer_json : Facts → Datum → List ℕ
-answer_json facts x = value_json (type_word x) (error_text x) facts.size facts.of_day
+answer_json facts x = value_json (type_word x) (error_text x) facts.size facts.utc
 
 -- ---- lines of results
 
@@ -113,7 +113,7 @@ abbrev pub command_json : Facts → ℕ → List ℕ → ℕ → List ℕ
 command_json facts number name words = front_json facts.client (codes ",\"kind\":\"command\"")
     (number_json (codes ",\"number\":") number ++ (member_json (codes ",\"command\":") name ++
     ((if facts.is_line then codes ",\"inline\":true" else []) ++ (number_json (codes ",\"words\":") words ++
-    (number_json (codes ",\"size\":") facts.size ++ end_json facts.of_day)))))
+    (number_json (codes ",\"size\":") facts.size ++ end_json facts.utc)))))
 
 -- the line of the reply to the command with this number and this name
 abbrev pub reply_json : Facts → ℕ → List ℕ → Datum → List ℕ
@@ -123,7 +123,7 @@ reply_json facts number name x = front_json facts.client (codes ",\"kind\":\"rep
 
 -- the line of a push
 abbrev pub push_json : Facts → List ℕ
-push_json facts = front_json facts.client (codes ",\"kind\":\"push\"") (value_json (codes "push") [] facts.size facts.of_day)
+push_json facts = front_json facts.client (codes ",\"kind\":\"push\"") (value_json (codes "push") [] facts.size facts.utc)
 
 -- the line of a value that is paired with no command
 abbrev pub unpaired_json : Facts → Datum → List ℕ
@@ -138,7 +138,7 @@ place_json place.Value = codes ",\"in\":\"value\""
 -- the line of an error in the bytes of a side
 abbrev pub refused_json : Facts → List ℕ → ℕ → Place → List ℕ
 refused_json facts name at where' = front_json facts.client (codes ",\"kind\":\"refused\",\"cause\":\"")
-    (name ++ (number_json (codes "\",\"at\":") at ++ (place_json where' ++ end_json facts.of_day)))
+    (name ++ (number_json (codes "\",\"at\":") at ++ (place_json where' ++ end_json facts.utc)))
 
 -- The line of a result; that of a result of the server is the line of this whole value. The name is that of the command
 -- that is answered.
@@ -157,7 +157,7 @@ seen_json facts name whole (seen.Refused cause at where') = refused_json facts (
 
 -- the line about a connection with this text, which may be empty
 abbrev pub remark_json : ℕ → List ℕ → List ℕ → List ℕ → ℕ → List ℕ
-remark_json client kind member text of_day = front_json client kind (member_json member text ++ end_json of_day)
+remark_json client kind member text utc = front_json client kind (member_json member text ++ end_json utc)
 
 abbrev pub closed_kind : Side → List ℕ
 closed_kind Client = codes ",\"kind\":\"closed\",\"side\":\"client\""
@@ -174,9 +174,9 @@ cut_bytes cut = option_map (λ (cut : Cut). cut.bytes) cut
 
 -- the line about the side of a connection that has ended
 abbrev pub closed_json : ℕ → List ℕ → Side → Option Cut → ℕ → List ℕ
-closed_json client name side cut of_day = front_json client (closed_kind side)
+closed_json client name side cut utc = front_json client (closed_kind side)
     (member_json (codes ",\"name\":") name ++ (cut_place cut ++
-    (known_json (codes ",\"size\":") (cut_bytes cut) ++ end_json of_day)))
+    (known_json (codes ",\"size\":") (cut_bytes cut) ++ end_json utc)))
 
 -- ---- other lines
 

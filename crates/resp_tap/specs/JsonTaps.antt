@@ -26,7 +26,7 @@ JsonTap = KeepingTap Calls
 
 -- what is kept of the command that the next reply belongs to
 abbrev pub called_of : JsonTap → Option Called
-called_of t = slice_get t.kept.calls.items (next_asked t.connection.timed)
+called_of t = slice_get t.kept.calls.items (next_asked t.connection.tap)
 
 -- the line of a result, if the filter lets it through: that of this whole command or value
 abbrev pub kept_json : Filter → Facts → Bool → List ℕ → Datum → Seen → List ℕ
@@ -42,29 +42,30 @@ pub record SeesJson (f : Filter) (side : Side) (now : Moment) (old new : JsonTap
   pub left : taken_of side new.kept.taken ≡ left_of what size
   pub same_taken : KeepsTaken side old.kept.taken new.kept.taken
   pub chosen : IsChosenCalled f (called_of old) what is_chosen
-  pub calls : CalledAfter is_chosen what (waits_in old.connection.timed) (waits_in new.connection.timed) old.kept.calls.items new.kept.calls.items
+  pub calls : CalledAfter is_chosen what (waits_in old.connection.tap) (waits_in new.connection.tap) old.kept.calls.items new.kept.calls.items
 
 -- The line of the result is printed if the filter lets it through, as far as writes succeed. A reply has the name and the
 -- delay of its command.
 pub record PrintsJson (f : Filter) (client : ℕ) (now : Moment) (old : JsonTap) (what : Seen) (is_line is_chosen : Bool)
     (size : ℕ) (before after : Option (List ℕ)) (failures failures' : ℕ) (printed : Result (Unit {0}) PrintError) : Type 0 where
   pub asked : Option ℕ
-  pub of_command : IsAskedIn old.connection.timed asked
+  pub of_command : IsAskedIn old.connection.tap asked
   pub facts : Facts
   pub are : facts ≡ record {
     client = client;
     is_line = is_line;
     size = size;
-    of_day = now.of_day;
+    utc = now.utc.micros;
     waited = waited_of now asked what;
   }
-  pub text : (whole : Datum) → IsKeptIn (Some 1024) (tap_state old.connection.timed.tap).kept whole what →
+  pub text : (whole : Datum) → IsKeptIn (Some 1024) (tap_state old.connection.tap).kept whole what →
       Prints before after failures failures' printed
       (kept_json f facts is_chosen (name_of_called (called_of old)) whole what) 0
 
--- the first result in a piece is read, and printed as JSON if the filter lets it through
-abbrev pub WatchesJson : Filter → ℕ → Side → Moment → StepOn JsonTap
-WatchesJson f client side now old new piece watched what before after failures failures' =
-    (is_line : Bool) × (is_chosen : Bool) × (size : ℕ) ×
-    SeesJson f side now old new piece watched.used what is_line is_chosen size ×
-    PrintsJson f client now old what is_line is_chosen size before after failures failures' watched.printed
+-- The first result in a piece is read, and printed as JSON if the filter of the tap lets it through. The filter stays
+-- the same.
+abbrev pub WatchesJson : ℕ → Side → Moment → StepOn JsonTap
+WatchesJson client side now old new piece watched what before after failures failures' =
+    (new.filter ≡ old.filter) × (is_line : Bool) × (is_chosen : Bool) × (size : ℕ) ×
+    SeesJson old.filter side now old new piece watched.used what is_line is_chosen size ×
+    PrintsJson old.filter client now old what is_line is_chosen size before after failures failures' watched.printed

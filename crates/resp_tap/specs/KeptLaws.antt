@@ -1,10 +1,10 @@
 -- What the kept part of a value or of a command says of the whole.
 use Rattle.std.specs.Prelude.{◌≡◌, ℕ, Bool, List, length, Option}
-use Rattle.resp_cut.specs.declared.cut_value.CutValue.{CutValue}
+use Rattle.resp_value.specs.declared.cut_value.CutValue.{CutValue}
 use Rattle.resp_value.specs.Data.{Datum, depth}
 use Rattle.resp_value.specs.Values.{datum_of}
 use Rattle.resp_session.specs.Reading.{is_refusal}
-use Rattle.resp_counts.specs.Names.{table_name}
+use Rattle.resp_stats.specs.Names.{table_name}
 use Rattle.resp_tap.specs.Called.{command_name}
 use Rattle.resp_tap.specs.ClientNames.{Naming, asked_by, name_asked}
 use Rattle.resp_tap.specs.Filters.{Chooses, Suffices, kept_by}

@@ -5,7 +5,7 @@ use Rattle.resp_commands.specs.Keys.{IsKey}
 use Rattle.resp_commands.specs.Rows.{HasNoRow, HasRow}
 use Rattle.resp_commands.specs.declared.command.Command.{Command}
 use Rattle.resp_commands.specs.declared.command.Keys.{Keys}
-use Rattle.resp_glob.specs.Globs.{Matches}
+use Rattle.resp_commands.specs.Globs.{Matches}
 
 -- the name of a command with these words
 abbrev pub name_in : List (List ℕ) → List ℕ

@@ -7,7 +7,7 @@ pub mod Parts
 pub mod Sides
 pub mod Taps
 pub mod Watching
-pub mod Ways
+pub mod Dates
 pub mod Digits
 pub mod Stamps
 pub mod Secrets

@@ -24,7 +24,6 @@ use Rattle.resp_tap.specs.declared.seen.Place.TheVariants as place
 use Rattle.resp_tap.specs.declared.seen.Seen.{Seen}
 use Rattle.resp_tap.specs.declared.seen.Seen.TheVariants as seen
 use Rattle.resp_tap.specs.declared.tap.Tap.{Tap}
-use Rattle.resp_tap.specs.declared.timed.TimedTap.{TimedTap}
 use Rattle.resp_tap.specs.declared.watch.Side.{Side}
 use Rattle.resp_tap.specs.declared.watch.Side.TheVariants.{Client}
 
@@ -69,25 +68,25 @@ WhyRefused s line cause at = ((cause ≡ causes.Length) × (65536 < length line)
     RefusesOfRequest s [] (canonical_text Two (command_of words)) used cause at)
 
 -- a line is refused, as the next command
-pub record RefusesLine (line : List ℕ) (old new : TimedTap) (cause : Cause) (at : ℕ) (where' : Place) : Type 0 where
-  pub why : WhyRefused (tap_state old.tap) line cause at
-  pub place : where' ≡ place.Command ((tap_state old.tap).commands + 1)
-  pub after : tap_state new.tap ≡ with_refused_command (tap_state old.tap)
+pub record RefusesLine (line : List ℕ) (old new : Tap) (cause : Cause) (at : ℕ) (where' : Place) : Type 0 where
+  pub why : WhyRefused (tap_state old) line cause at
+  pub place : where' ≡ place.Command ((tap_state old).commands + 1)
+  pub after : tap_state new ≡ with_refused_command (tap_state old)
 
 -- the words of a line are the next command, of which this is kept
-pub record GivesLine (now : Option Moment) (line : List ℕ) (old new : TimedTap) (number : ℕ) (words : List (List ℕ))
+pub record GivesLine (now : Option Moment) (line : List ℕ) (old new : Tap) (number : ℕ) (words : List (List ℕ))
     (lengths : List ℕ) : Type 0 where
   pub whole : List (List ℕ)
   pub some : 0 < length whole
   pub are : AreWords whole line
-  pub are_kept : AreKeptOf (tap_state old.tap).shown (tap_state old.tap).kept whole words lengths
-  pub numbered : number ≡ (tap_state old.tap).commands + 1
-  pub after : tap_state new.tap ≡ with_command (command_kind whole) (tap_state old.tap)
-  pub takes : HasTakenRequest new.tap []
+  pub are_kept : AreKeptOf (tap_state old).shown (tap_state old).kept whole words lengths
+  pub numbered : number ≡ (tap_state old).commands + 1
+  pub after : tap_state new ≡ with_command (command_kind whole) (tap_state old)
+  pub takes : HasTakenRequest new []
   pub times : KeepsTimes now old new
 
 -- what is told at the end of a line
-abbrev pub EndsSo : Option Moment → List ℕ → TimedTap → TimedTap → Seen → Type 0
+abbrev pub EndsSo : Option Moment → List ℕ → Tap → Tap → Seen → Type 0
 EndsSo now line old new seen.Passed = AreWords [] line × (new ≡ old)
 EndsSo now line old new (seen.Command number words lengths) = GivesLine now line old new number words lengths.items
 EndsSo now line old new (seen.Refused cause at where') = RefusesLine line old new cause at where'
@@ -96,7 +95,7 @@ EndsSo now line old new _ = ⊥
 -- ---- the bytes of a line
 
 -- the whole piece belongs to a line that does not end in it
-pub record HoldsLine (lines lines' : Lines) (old new : TimedTap) (piece : List ℕ) (used : ℕ) : Type 0 where
+pub record HoldsLine (lines lines' : Lines) (old new : Tap) (piece : List ℕ) (used : ℕ) : Type 0 where
   pub whole_piece : used ≡ length piece
   pub no_end : AllByRecursion (λ b. b ≢ 10) piece
   pub held : lines'.held.items ≡ lines.held.items ++ piece
@@ -104,37 +103,37 @@ pub record HoldsLine (lines lines' : Lines) (old new : TimedTap) (piece : List �
   pub same : new ≡ old
 
 -- A line ends in the piece, and this is told of it; or it is refused in the piece.
-pub record EndsLine (now : Option Moment) (lines lines' : Lines) (old new : TimedTap) (piece : List ℕ) (used : ℕ) (what : Seen) :
+pub record EndsLine (now : Option Moment) (lines lines' : Lines) (old new : Tap) (piece : List ℕ) (used : ℕ) (what : Seen) :
     Type 0 where
   pub last : List ℕ
   pub rest : List ℕ
   pub begins : piece ≡ last ++ rest
   pub no_end : AllByRecursion (λ b. b ≢ 10) last
   pub told : EndsSo now (lines.held.items ++ last) old new what
-  pub read : (tap_state new.tap).reads_commands ≡ true →
+  pub read : (tap_state new).reads_commands ≡ true →
       (rest ≡ 10 ∷ drop used piece) × (used ≡ length last + 1) × (lines'.held.items ≡ [])
 
 -- the result for bytes of a line
-abbrev pub TellsLine : Option Moment → Lines → Lines → TimedTap → TimedTap → List ℕ → ℕ → Seen → Type 0
+abbrev pub TellsLine : Option Moment → Lines → Lines → Tap → Tap → List ℕ → ℕ → Seen → Type 0
 TellsLine now lines lines' old new piece used seen.Nothing = HoldsLine lines lines' old new piece used
 TellsLine now lines lines' old new piece used what = EndsLine now lines lines' old new piece used what
 
 -- The bytes belong to a line. Before it the tap has read no part of an array.
-pub record SeesLine (now : Option Moment) (side : Side) (lines lines' : Lines) (old new : TimedTap) (piece : List ℕ) (used : ℕ)
+pub record SeesLine (now : Option Moment) (side : Side) (lines lines' : Lines) (old new : Tap) (piece : List ℕ) (used : ℕ)
     (what : Seen) : Type 0 where
   pub client : side ≡ Client
-  pub belong : IsInLine lines old.tap piece
-  pub told : HasTakenRequest old.tap [] → TellsLine now lines lines' old new piece used what
+  pub belong : IsInLine lines old piece
+  pub told : HasTakenRequest old [] → TellsLine now lines lines' old new piece used what
 
 -- the bytes belong to no line
-pub record SeesNoLine (now : Option Moment) (side : Side) (lines lines' : Lines) (old new : TimedTap) (piece : List ℕ)
+pub record SeesNoLine (now : Option Moment) (side : Side) (lines lines' : Lines) (old new : Tap) (piece : List ℕ)
     (used : ℕ) (what : Seen) : Type 0 where
   pub first : SeesFirst side now old new piece used what
   pub same_lines : lines' ≡ lines
-  pub no_line : side ≡ Client → IsNoLine lines old.tap piece
+  pub no_line : side ≡ Client → IsNoLine lines old piece
 
 -- the first result in a piece, and whether it is that of a line
-abbrev pub SeesLined : Option Moment → Side → Lines → Lines → TimedTap → TimedTap → List ℕ → ℕ → Seen → Bool → Type 0
+abbrev pub SeesLined : Option Moment → Side → Lines → Lines → Tap → Tap → List ℕ → ℕ → Seen → Bool → Type 0
 SeesLined now side lines lines' old new piece used what is_line =
     MatchBool is_line (SeesLine now side lines lines' old new piece used what)
     (SeesNoLine now side lines lines' old new piece used what)

@@ -7,6 +7,7 @@ use Rattle.resp_tap.specs.Secrets.{printed_words}
 use Rattle.resp_tap.specs.Texts.{heading, seen_text, words_text}
 use Rattle.resp_tap.specs.declared.filter.Filter.{Filter}
 use Rattle.resp_tap.specs.declared.moment.Moment.{Moment}
+use Rattle.resp_tap.specs.declared.moment.Utc.{Utc}
 use Rattle.resp_tap.specs.declared.note.Note.{Note}
 use Rattle.resp_tap.specs.declared.print.TextOptions.{TextOptions}
 use Rattle.resp_tap.specs.declared.seen.Seen.{Seen}
@@ -33,7 +34,7 @@ shown_words p words = words_text p.shown.most (printed_words p.shows_passwords w
 -- not, if so many bytes are kept of them.
 pub record IsNote (p : TextOptions) (now : Option Moment) (is_line is_chosen : Bool) (words : List (List ℕ)) (room : ℕ) (note : Note) :
     Type 0 where
-  pub time : note.of_day ≡ option_map (λ (moment : Moment). moment.of_day) now
+  pub time : note.utc ≡ option_map (λ (moment : Moment). moment.utc) now
   pub line : note.is_line ≡ is_line
   pub chosen : note.is_chosen ≡ is_chosen
   pub first_bytes : note.text.items ≡ take room (shown_words p words)
@@ -62,14 +63,14 @@ line_end is_whole = if is_whole then codes "\n" else codes " ..\n"
 abbrev pub kept_line : Bool → List ℕ → List ℕ
 kept_line is_whole text = codes " " ++ (text ++ line_end is_whole)
 
-abbrev pub stamp_on : Option ℕ → Option Stamp
-stamp_on = option_map (λ of_day. record { of_day = of_day; waited = None })
+abbrev pub stamp_on : Option Utc → Option Stamp
+stamp_on = option_map (λ utc. record { utc = utc; waited = None })
 
 -- the lines of a command that waited, by what is kept of it
 abbrev pub deferred_text : ℕ → ℕ → Option Note → List ℕ
 deferred_text client number None = heading false client number None ++ kept_line false []
 deferred_text client number (Some note) =
-    heading note.is_line client number (stamp_on note.of_day) ++ kept_line note.is_whole note.text.items
+    heading note.is_line client number (stamp_on note.utc) ++ kept_line note.is_whole note.text.items
 
 -- the lines before a result: those of its command, if the reply has decided
 abbrev pub before_text : Filter → ℕ → Option Note → Seen → List ℕ

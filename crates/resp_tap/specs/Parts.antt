@@ -1,8 +1,8 @@
 -- What is kept of the values of a server and of the commands of a client.
 use Rattle.std.specs.Prelude.{◌≡◌, ◌≢◌, ◌≤◌, ℕ, max, length, map, List, [], ◌∷◌, ◌++◌, Option, None, Some}
 use Rattle.std.specs.Option.{ForSome}
-use Rattle.resp_cut.specs.Cuts.{cut, cut_lengths, kept_part, longer}
-use Rattle.resp_cut.specs.declared.cut_value.CutValue.{CutValue}
+use Rattle.resp_value.specs.Cuts.{cut, cut_lengths, kept_part, longer}
+use Rattle.resp_value.specs.declared.cut_value.CutValue.{CutValue}
 use Rattle.resp_value.specs.Data.{Datum}
 use Rattle.resp_value.specs.Values.{datum_of}
 

@@ -1,6 +1,6 @@
 -- The text that a screen holds.
 use Rattle.std.specs.Prelude.{◌≡◌, ◌⊎◌, ℕ, ◌-◌, ◌<◌, ◌≤◌, ◌==◌, Bool, true, false, not, ◌||◌, List, [], ◌++◌, length, min, nat_le, slice_get, take, codes, decimal, Some}
-use Rattle.resp_value.specs.Devices.{count_after}
+use Rattle.resp_io.specs.Devices.{count_after}
 
 pub record ScreenState : Type 0 where
   -- the text that waits to be shown

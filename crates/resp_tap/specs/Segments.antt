@@ -17,7 +17,7 @@ segment_text (Quoted text) = quoted_text text.now
 segment_text (Ending stamp) = ending_text stamp
 segment_text (Json text) = text_json text.now
 segment_text (Member front text) = member_json front.now text.now
-segment_text (JsonEnd of_day) = end_json of_day
+segment_text (JsonEnd utc) = end_json utc
 
 -- the text of segments in order
 abbrev pub segments_text : List Segment → List ℕ

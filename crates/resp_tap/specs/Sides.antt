@@ -6,7 +6,7 @@ use Rattle.resp_value.specs.Data.{Datum}
 use Rattle.resp_value.specs.declared.cause.Cause.TheVariants.{OutOfMemory}
 use Rattle.resp_scan.specs.Reading.{HasNoValue}
 use Rattle.resp_scan.specs.declared.event.Fault.{Fault}
-use Rattle.resp_cut.specs.declared.cut_value.CutValue.{CutValue}
+use Rattle.resp_value.specs.declared.cut_value.CutValue.{CutValue}
 use Rattle.resp_decode.specs.CutDecoding as cut
 use Rattle.resp_decode.specs.Decoding as decode
 use Rattle.resp_tap.specs.Parts.{IsKeptOf}

@@ -23,7 +23,7 @@ use Rattle.resp_tap.specs.declared.moment.Moment.{Moment}
 use Rattle.resp_tap.specs.declared.print.Printing.{Printing}
 use Rattle.resp_tap.specs.declared.seen.Seen.{Seen}
 use Rattle.resp_tap.specs.declared.seen.Seen.TheVariants as seen
-use Rattle.resp_tap.specs.declared.timed.TimedTap.{TimedTap}
+use Rattle.resp_tap.specs.declared.tap.Tap.{Tap}
 use Rattle.resp_tap.specs.declared.watch.Side.{Side}
 use Rattle.resp_tap.specs.declared.watch.Side.TheVariants.{Client, Server}
 
@@ -34,7 +34,7 @@ pub record Arrival : Type 0 where
   pub told : List Seen
 
 -- the piece arrived: these are its results, as `watch` tells them
-pub record Arrives (old new : TimedTap) (a : Arrival) : Type 0 where
+pub record Arrives (old new : Tap) (a : Arrival) : Type 0 where
   pub printing : Printing
   pub now : Option Moment
   pub before : Option (List ℕ)
@@ -43,12 +43,12 @@ pub record Arrives (old new : TimedTap) (a : Arrival) : Type 0 where
   pub failures' : ℕ
   pub result : Result (Unit {0}) PrintError
   pub watched : WatchesAll (Watches printing a.side now) a.told old new a.piece before after failures failures' result
-  pub other_side : KeepsOther a.side old.tap new.tap
+  pub other_side : KeepsOther a.side old new
 
 -- these pieces arrived, one after another
-abbrev pub Arrive : TimedTap → TimedTap → List Arrival → Type 0
+abbrev pub Arrive : Tap → Tap → List Arrival → Type 0
 Arrive old new [] = new ≡ old
-Arrive old new (a ∷ arrivals) = (next : TimedTap) × Arrives old next a × Arrive next new arrivals
+Arrive old new (a ∷ arrivals) = (next : Tap) × Arrives old next a × Arrive next new arrivals
 
 -- the first of two lists for the client, and the second for the server
 abbrev pub by_side : {X : Type 0} → Side → X → X → X
@@ -163,11 +163,11 @@ pub record TellsReplies (limits : Bounds) (most : Option ℕ) (arrivals : List A
 -- Of a new connection: if no error was told, the commands are told. If no value has arrived that no command asked for,
 -- the replies are told too.
 abbrev pub TellsTheConnection : Type 0
-TellsTheConnection = (limits : Bounds) (most kept : Option ℕ) (old new : TimedTap) (arrivals : List Arrival) →
-    tap_state old.tap ≡ new_tap limits most kept →
-    HasTakenRequest old.tap [] → HasTakenValue old.tap [] → Arrive old new arrivals → NoError arrivals →
+TellsTheConnection = (limits : Bounds) (most kept : Option ℕ) (old new : Tap) (arrivals : List Arrival) →
+    tap_state old ≡ new_tap limits most kept →
+    HasTakenRequest old [] → HasTakenValue old [] → Arrive old new arrivals → NoError arrivals →
     (commands : TellsCommands limits kept arrivals) ×
-    ((tap_state new.tap).line.is_lost ≡ false → TellsReplies limits most arrivals (commands_of commands.values))
+    ((tap_state new).line.is_lost ≡ false → TellsReplies limits most arrivals (commands_of commands.values))
 
 -- a kind of commands with exactly one reply
 abbrev pub IsAnswered : CommandKind → Type 0

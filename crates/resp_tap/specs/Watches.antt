@@ -9,13 +9,12 @@ use Rattle.resp_tap.specs.SeenOf.{IsKeptIn}
 use Rattle.resp_tap.specs.Taps.{TapState, at_front, tap_state}
 use Rattle.resp_tap.specs.Texts.{levels_of, seen_text}
 use Rattle.resp_tap.specs.Times.{IsAskedIn, KeepsTimes, stamp_of}
-use Rattle.resp_tap.specs.Watching.{HasTakenSomeRequest, HasTakenSomeValue, KeepsRequest, KeepsValue, SeesTimed, SeesValue, WhereAnswered, WhereRequested}
+use Rattle.resp_tap.specs.Watching.{HasTakenSomeRequest, HasTakenSomeValue, KeepsRequest, KeepsValue, SeesRequest, SeesValue, WhereAnswered, WhereRequested}
 use Rattle.resp_tap.specs.declared.moment.Moment.{Moment}
 use Rattle.resp_tap.specs.declared.print.Printing.{Printing}
 use Rattle.resp_tap.specs.declared.seen.Seen.{Seen}
 use Rattle.resp_tap.specs.declared.seen.Seen.TheVariants as seen
 use Rattle.resp_tap.specs.declared.tap.Tap.{Tap}
-use Rattle.resp_tap.specs.declared.timed.TimedTap.{TimedTap}
 use Rattle.resp_tap.specs.declared.watch.Side.{Side}
 use Rattle.resp_tap.specs.declared.watch.Side.TheVariants.{Client, Server}
 use Rattle.resp_tap.specs.declared.watch.Watched.{Watched}
@@ -36,9 +35,9 @@ WhereSent Client t P = WhereRequested t P
 WhereSent Server t P = WhereAnswered t P
 
 -- the result for the bytes of this side
-abbrev pub SeesSent : Side → Option Moment → TapState → Tap → List ℕ → List ℕ → ℕ → Seen → Type 0
-SeesSent Client now s new front piece used seen = SeesTimed now s new front piece used seen
-SeesSent Server now s new front piece used seen = SeesValue (at_front front piece s) new front piece used seen
+abbrev pub SeesSent : Side → TapState → Tap → List ℕ → List ℕ → ℕ → Seen → Type 0
+SeesSent Client s new front piece used seen = SeesRequest s new front piece used seen
+SeesSent Server s new front piece used seen = SeesValue (at_front front piece s) new front piece used seen
 
 -- whether the bytes of this side are still read
 abbrev pub is_read_of : Side → TapState → Bool
@@ -46,22 +45,22 @@ is_read_of Client s = s.reads_commands
 is_read_of Server s = s.reads_replies
 
 -- The first result in a piece that arrived at this moment, and the number of bytes that were read for it.
-pub record SeesFirst (side : Side) (now : Option Moment) (old new : TimedTap) (piece : List ℕ) (used : ℕ)
+pub record SeesFirst (side : Side) (now : Option Moment) (old new : Tap) (piece : List ℕ) (used : ℕ)
     (what : Seen) : Type 0 where
-  pub some : HasSentSome side old.tap
-  pub read : is_read_of side (tap_state old.tap) ≡ true → WhereSent side old.tap (λ front.
-      SeesSent side now (tap_state old.tap) new.tap front piece used what × KeepsTimes now old new)
-  pub unread : is_read_of side (tap_state old.tap) ≡ false → (new ≡ old) × (used ≡ length piece) × (what ≡ seen.Nothing)
+  pub some : HasSentSome side old
+  pub read : is_read_of side (tap_state old) ≡ true → WhereSent side old (λ front.
+      SeesSent side (tap_state old) new front piece used what × KeepsTimes now old new)
+  pub unread : is_read_of side (tap_state old) ≡ false → (new ≡ old) × (used ≡ length piece) × (what ≡ seen.Nothing)
 
 -- The text of the result is printed, as far as writes succeed: that of the whole command or of the whole value, of which
 -- only a part is kept. If times are printed, the text of a reply has the time of the command that it answers.
-pub record PrintsSeen (printing : Printing) (now : Option Moment) (old : TimedTap) (what : Seen) (before after : Option (List ℕ))
+pub record PrintsSeen (printing : Printing) (now : Option Moment) (old : Tap) (what : Seen) (before after : Option (List ℕ))
     (failures failures' : ℕ) (printed : Result (Unit {0}) PrintError) : Type 0 where
   pub asked : Option ℕ
   pub of_command : IsAskedIn old asked
-  pub text : (whole : Datum) → IsKeptIn (tap_state old.tap).shown (tap_state old.tap).kept whole what →
+  pub text : (whole : Datum) → IsKeptIn (tap_state old).shown (tap_state old).kept whole what →
       Prints before after failures failures' printed
-      (seen_text (options_of printing old.tap) false (stamp_of now asked what) whole what) (levels_of what)
+      (seen_text (options_of printing old) false (stamp_of now asked what) whole what) (levels_of what)
 
 -- A statement about one step of reading a piece: the state before and after it, the piece, what the step returns, the
 -- result that it reads, the bytes written before and after it, and the numbers of failures.
@@ -82,7 +81,7 @@ WatchesAll {S} Step (what ∷ more) old new piece before after failures failures
     WatchesAll Step more next new (drop watched.used piece) written after failed failures' later
 
 -- the first result in a piece is read and printed
-abbrev pub Watches : Printing → Side → Option Moment → StepOn TimedTap
+abbrev pub Watches : Printing → Side → Option Moment → StepOn Tap
 Watches printing side now old new piece watched what before after failures failures' =
     SeesFirst side now old new piece watched.used what ×
     PrintsSeen printing now old what before after failures failures' watched.printed

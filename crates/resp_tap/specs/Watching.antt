@@ -1,5 +1,5 @@
 -- The results that a tap reports for the bytes of either side, in terms of texts and values.
-use Rattle.std.specs.Prelude.{◌≡◌, ◌≢◌, ◌⊎◌, ℕ, ◌+◌, ◌≤◌, ◌<◌, ◌^◌, true, false, if◌then◌else◌, Bool, Option, None, Some, IsSome, List, [], ◌∷◌, ◌++◌, length, take}
+use Rattle.std.specs.Prelude.{◌≡◌, ◌≢◌, ◌⊎◌, ℕ, ◌+◌, ◌≤◌, ◌<◌, ◌^◌, true, false, if◌then◌else◌, Bool, Option, None, Some, List, [], ◌∷◌, ◌++◌, length, take}
 use Rattle.resp_value.specs.Bounds.{Bounds}
 use Rattle.resp_value.specs.Data.{Datum}
 use Rattle.resp_value.specs.Rules.{Rules, WithinTotal, rules_under}
@@ -8,7 +8,7 @@ use Rattle.resp_value.specs.declared.cause.Cause.{Cause}
 use Rattle.resp_value.specs.declared.cause.Cause.TheVariants as causes
 use Rattle.resp_value.specs.declared.value.Value.TheVariants as value
 use Rattle.resp_value.specs.declared.version.Version.TheVariants.{Two}
-use Rattle.resp_cut.specs.declared.cut_value.CutValue.{CutValue}
+use Rattle.resp_value.specs.declared.cut_value.CutValue.{CutValue}
 use Rattle.resp_scan.specs.Reading.{HasNoValue}
 use Rattle.resp_scan.specs.declared.event.Fault.{Fault}
 use Rattle.resp_session.specs.Commands.{NoCommand, Nothing, array_meaning, meaning_of}
@@ -25,7 +25,6 @@ use Rattle.resp_tap.specs.declared.seen.Place.{Place}
 use Rattle.resp_tap.specs.declared.seen.Place.TheVariants as place
 use Rattle.resp_tap.specs.declared.seen.Seen.{Seen}
 use Rattle.resp_tap.specs.declared.seen.Seen.TheVariants as seen
-use Rattle.resp_tap.specs.declared.moment.Moment.{Moment}
 use Rattle.resp_tap.specs.declared.tap.Tap.{Tap}
 
 -- the rules for the client's bytes, in either version
@@ -147,17 +146,6 @@ SeesRequest s new front piece used (seen.NotCommand number) = GivesNoCommand s n
 SeesRequest s new front piece used (seen.Refused cause at where') =
     RefusesRequestAt s new front piece used cause at where'
 SeesRequest s new front piece used _ = ⊥
-
--- memory for the time of the next command is out, so it is rejected at its first byte
-pub record LacksTime (s : TapState) (new : Tap) (piece : List ℕ) (used : ℕ) (what : Seen) : Type 0 where
-  pub told : what ≡ seen.Refused causes.OutOfMemory 0 (place.Command (s.commands + 1))
-  pub whole_piece : used ≡ length piece
-  pub after : tap_state new ≡ with_refused_command s
-
--- the result for the bytes of the client, if the times of commands are kept when a moment is given
-abbrev pub SeesTimed : Option Moment → TapState → Tap → List ℕ → List ℕ → ℕ → Seen → Type 0
-SeesTimed now s new front piece used what =
-    SeesRequest s new front piece used what ⊎ (IsSome now × LacksTime s new piece used what)
 
 -- The server's text is a value, of which this is kept. It is a push or not, belongs to the command with this number if
 -- there is one, and changes the line.

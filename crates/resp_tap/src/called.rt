@@ -1,4 +1,4 @@
-//! The commands that wait, while JSON is printed.
+//! The commands that wait for a reply, while JSON is printed.
 
 ghost use Rattle.std.specs.Prelude.{◌≡◌, [], map, take, option_map};
 ghost use Rattle.resp_tap.specs.Called.{IsChosenCalled, command_name, name_of_called, upper_word};
@@ -9,7 +9,7 @@ use crate::seen::Seen;
 use arrayvec::ArrayVec;
 use resp_session::words::Words;
 
-/// The most bytes of a name that are printed.
+/// The maximum number of bytes of a name that are printed.
 const MOST: usize = 32;
 
 /// The printed name of a command: the first 32 bytes of its first word, with letters in upper case.
@@ -38,7 +38,7 @@ pub(crate) fn command_name(words: &Words) -> ArrayVec<u8, MOST>
     upper_word(name_in(words))
 }
 
-/// Returns the kept name of a command, or no byte if none is kept.
+/// Returns the kept name of a command, or an empty name if no name is kept.
 pub(crate) fn name_of_called<'a>(called: Option<&'a Called>) -> &'a [u8]
     ensures { result.now ≡ name_of_called (option_map (λ called. called.now) called.entry) }
 {

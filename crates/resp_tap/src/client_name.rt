@@ -11,16 +11,17 @@ use resp_session::names::is_name;
 use resp_session::words::Words;
 use std::mem;
 
-/// The most bytes of a name that are printed.
+/// The maximum number of bytes of a name that are printed.
 const MOST: usize = 64;
 
-/// The name of a connection, as it is printed: at most 64 printable bytes. A client gives the name by
-/// CLIENT SETNAME, or by HELLO with SETNAME, and RESET takes it away. It has effect once the reply has
-/// arrived that is not an error. Of several such commands in one pipeline only the last has effect.
+/// The name of a connection, as it is printed: at most 64 printable bytes. A client sets the name
+/// with CLIENT SETNAME, or with HELLO and SETNAME, and RESET removes it. The change takes effect
+/// when the reply arrives, unless the reply is an error. If a pipeline has several such commands,
+/// only the last one takes effect.
 #[derive(Drop)]
 pub struct ClientName {
     pub(crate) text: ArrayVec<u8, MOST>,
-    /// The number of the last command that asked for another name, while its reply is due.
+    /// The number of the last command that asked for another name, until its reply arrives.
     pub(crate) asked: Option<u64>,
     /// The name that it asked for.
     pub(crate) next: ArrayVec<u8, MOST>,
@@ -44,7 +45,8 @@ fn shown_name(name: &[u8]) -> ArrayVec<u8, MOST>
     shown
 }
 
-/// Returns the word after the word at this index, if that one is this option in lower case.
+/// Returns the word after the word at this index, if the word at this index is `option`. `option`
+/// is in lower case.
 fn option_at<'a>(words: &'a Words, index: usize, option: &[u8]) -> Option<&'a [u8]>
     requires near { index < 8 }
     ensures { option_map (λ name. name.now) result ≡ option_at option.now index words.now }
@@ -55,7 +57,7 @@ fn option_at<'a>(words: &'a Words, index: usize, option: &[u8]) -> Option<&'a [u
     None
 }
 
-/// Returns the name that a HELLO gives to the connection, if it gives one.
+/// Returns the name that a HELLO gives the connection, if any.
 fn name_in_hello(words: &Words) -> Option<&[u8]>
     ensures { option_map (λ name. name.now) result ≡ name_in_hello words.now }
 {
@@ -98,7 +100,7 @@ impl ClientName {
         }
     }
 
-    /// Returns the printed bytes of the name. There are none if the connection has no name.
+    /// Returns the printed bytes of the name, which are empty if the connection has no name.
     pub fn as_bytes(&self) -> &[u8]
         ensures { result.now ≡ (naming_of self.now).name }
     {

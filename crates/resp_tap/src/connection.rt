@@ -9,12 +9,13 @@ ghost use Rattle.resp_tap.specs.Watches.{KeepsOther};
 
 use crate::client_name::ClientName;
 use crate::end::Cut;
+use crate::filter::Filter;
 use crate::lines::Lines;
 use crate::moment::Moment;
 use crate::seen::Step;
 use crate::shown_part::ShownPart;
 use crate::tap::Tap;
-use crate::timed::{TimedTap, Waiting};
+use crate::waiting::Waiting;
 use crate::watch::Side;
 use resp_value::limits::Limits;
 use std::alloc::Global;
@@ -34,7 +35,7 @@ pub(crate) struct Next {
 /// The tap of a connection whose client may send commands as lines, and may name the connection.
 #[derive(Drop)]
 pub struct ConnectionTap {
-    pub(crate) timed: TimedTap,
+    pub(crate) tap: Tap,
     /// The lines among the bytes of the client.
     pub(crate) lines: Lines,
     pub(crate) name: ClientName,
@@ -54,7 +55,7 @@ impl ConnectionTap {
         ensures { IsNewConnection limits.now shown.most kept.most result }
     {
         ConnectionTap {
-            timed: TimedTap::keeping(alloc, limits, shown, kept),
+            tap: Tap::keeping(alloc, limits, shown, kept),
             lines: Lines::new(alloc, true),
             name: ClientName::new(),
         }
@@ -62,17 +63,24 @@ impl ConnectionTap {
 
     /// Returns the tap of the commands and replies.
     pub fn tap(&self) -> &Tap
-        ensures { result.now ≡ self.now.timed.tap }
+        ensures { result.now ≡ self.now.tap }
     {
-        self.timed.tap()
+        &self.tap
     }
 
-    /// Returns the command, reply or value that this side has sent in part, if its bytes are still
-    /// read.
+    /// Returns the incomplete command, reply or value of this side, if the bytes of the side are
+    /// still read.
     pub fn cut(&self, side: Side) -> Option<Cut>
-        ensures { CutsOff side self.now.lines.held.items self.now.timed.tap result }
+        ensures { CutsOff side self.now.lines.held.items self.now.tap result }
     {
-        self.timed.tap.cut(side, self.lines.held.as_slice())
+        self.tap.cut(side, self.lines.held.as_slice())
+    }
+
+    /// Returns the number of commands that wait for their replies.
+    pub fn waiting(&self) -> u64
+        ensures { result ≡ waits_in self.now.tap }
+    {
+        self.tap.waiting()
     }
 
     /// Returns the name that the client has given to the connection.
@@ -87,28 +95,31 @@ impl ConnectionTap {
     pub(crate) fn step(&mut self, side: Side, piece: &[u8], now: Option<Moment>) -> Next
         ensures sees { SeesNext now side self.old self.new piece.now result.step.used
             result.step.seen result.is_line }
-        ensures waited { AreWaiting self.old.timed result.waiting }
-        ensures left { result.left ≡ waits_in self.new.timed }
-        ensures other_side { KeepsOther side self.old.timed.tap self.new.timed.tap }
+        ensures waited { AreWaiting self.old.tap result.waiting }
+        ensures left { result.left ≡ waits_in self.new.tap }
+        ensures other_side { KeepsOther side self.old.tap self.new.tap }
         ensures within_piece { result.step.used ≤ length piece.now }
         ensures uses_bytes { 0 < length piece.now → 0 < result.step.used }
     {
-        let waiting = self.timed.waiting();
-        let lined = self.lines.step(&mut self.timed, side, piece, now);
+        let waiting = self.tap.awaited();
+        let lined = self.lines.step(&mut self.tap, side, piece, now);
         self.name.follow(&lined.step.seen);
         Next {
             step: lined.step,
             is_line: lined.is_line,
             waiting,
-            left: self.timed.tap.waiting(),
+            left: self.tap.waiting(),
         }
     }
 }
 
-/// A tap of a connection that keeps something for each command that waits.
+/// A tap of a connection that prints or counts the commands and replies that its filter lets through.
+/// It keeps something for each command that waits.
 #[derive(Drop)]
 pub struct KeepingTap<K> {
     pub(crate) connection: ConnectionTap,
+    /// Decides which commands, replies and other results are printed or counted.
+    pub(crate) filter: Filter,
     pub(crate) kept: K,
 }
 
@@ -120,8 +131,8 @@ impl<K> KeepingTap<K> {
         &self.connection
     }
 
-    /// Returns the tap of a new connection, whose lines are commands or are not. Without lines a byte
-    /// that begins no array is an error.
+    /// Returns the tap of a new connection. `are_read` says whether lines are commands. If they are
+    /// not, a byte that does not begin an array is an error.
     pub fn with_lines(mut self, are_read: bool) -> KeepingTap<K>
         ensures lines { result.connection.lines ≡ record self.connection.lines { are_read = are_read } }
         ensures same { result ≡ record self {

@@ -6,13 +6,14 @@ ghost use Rattle.resp_tap.specs.Connections.{IsNewConnection, SeesNext};
 ghost use Rattle.resp_tap.specs.CountedTaps.{WatchesCounted, counted_text};
 ghost use Rattle.resp_tap.specs.Filters.{kept_by};
 ghost use Rattle.resp_tap.specs.Counting.{AnswersCall, AsksCall, CountsAfter, CountsSeen, IsCounted, IsPlaceFor, ReleasesCall, is_error};
-ghost use Rattle.resp_counts.specs.Names.{table_name};
-ghost use Rattle.resp_counts.specs.Rows.{MayAddRow};
+ghost use Rattle.resp_stats.specs.Names.{table_name};
+ghost use Rattle.resp_stats.specs.Rows.{MayAddRow};
 ghost use Rattle.resp_tap.specs.Texts.{levels_of};
 ghost use Rattle.resp_tap.specs.Watches.{KeepsOther, WatchesAll};
 ghost use Rattle.resp_tap.specs.declared.seen.Seen.{Seen};
 
 use crate::connection::{ConnectionTap, KeepingTap, Next};
+use crate::each_result::{Given, WatchSome, watch_each};
 use crate::filter::Filter;
 use crate::line::is_refusal;
 use crate::moment::Moment;
@@ -22,15 +23,15 @@ use crate::shown_part::ShownPart;
 use crate::taken::{NONE_TAKEN, Taken};
 use crate::waiting::drop_first;
 use crate::watch::{Side, Watched, stamp_of, waited_of};
-use resp_counts::{Call, Counts, name_of};
+use resp_io::device::Sink;
 use resp_print::print_error::PrintError;
 use resp_session::words::Words;
-use resp_value::device::Sink;
+use resp_stats::{Call, Counts, name_of};
 use resp_value::limits::Limits;
 use std::alloc::Global;
 use std::collections::VecDeque;
 
-/// A command that waits, as it is counted.
+/// What is kept to count a command that waits for its reply.
 #[derive(Clone, Copy, Debug, PartialEq, Eq)]
 pub(crate) struct Asked {
     /// The place of its row, if it is counted.
@@ -81,11 +82,11 @@ fn answer(counts: &mut Counts, filter: &Filter, asked: Option<Asked>, heard: Hea
     }
 }
 
-/// A tap whose commands are counted in [`Counts`], each with its reply. Use the same counts and the
-/// same filter for all bytes of a connection.
+/// A tap whose commands are counted in [`Counts`], each with its reply, as far as its [`Filter`] lets
+/// them through. Use the same counts for all bytes of a connection.
 ///
-/// If an allocation fails, a command is not counted, and neither are the commands after it as long as
-/// it waits.
+/// If an allocation fails, neither the command nor the commands that follow while it waits are
+/// counted.
 pub type CountedTap = KeepingTap<Asks>;
 
 /// The commands that wait to be counted, and the bytes of incomplete ones.
@@ -98,19 +99,22 @@ pub struct Asks {
 }
 
 impl CountedTap {
-    /// Returns a tap of a new connection for this filter, which is read within these limits. At most 13
-    /// bytes of each text of the server are kept. If the filter has a key, whole words of the client
-    /// are kept, and otherwise at most 65 bytes of each, or one more than its longest name has. A line
-    /// of the client is a command too. It allocates nothing.
-    pub fn new(alloc: Global, limits: &Limits, filter: &Filter) -> CountedTap
-        ensures new_connection { IsNewConnection limits.now (Some 12)
-            (kept_by filter.now (Some 12)) result.connection }
+    /// Returns a tap of a new connection for this filter, which is read within these limits. At
+    /// most 13 bytes of each text of the server are kept. If the filter has a key, whole words of
+    /// the client are kept. Otherwise at most 65 bytes of each word are kept, or one byte more than
+    /// the longest name of the filter if that is more. A line of the client is a command too. It
+    /// allocates nothing.
+    pub fn new(alloc: Global, limits: &Limits, filter: Filter) -> CountedTap
+        ensures new_connection { IsNewConnection limits.now (Some 12) (kept_by filter (Some 12))
+            result.connection }
+        ensures filter { result.filter ≡ filter }
         ensures nothing_asked { result.kept.asked.items ≡ [] }
     {
         let shown = ShownPart::first(0);
         let kept = filter.kept_part(shown);
         KeepingTap {
             connection: ConnectionTap::keeping(alloc, limits, shown, kept),
+            filter,
             kept: Asks {
                 asked: VecDeque::new(alloc),
                 taken: NONE_TAKEN,
@@ -119,7 +123,7 @@ impl CountedTap {
     }
 }
 
-/// Counts a command if it waits no more, or keeps a new command that waits, after a result.
+/// Handles a result: counts a command that no longer waits, or keeps a new command that waits.
 fn follow(
     asked: &mut VecDeque<Asked>,
     counts: &mut Counts,
@@ -144,7 +148,7 @@ fn follow(
     }
 }
 
-/// Removes this many commands that wait no more, and counts the command at this index.
+/// Removes this many commands that no longer wait, and counts the command at this index.
 fn release(
     asked: &mut VecDeque<Asked>,
     counts: &mut Counts,
@@ -163,7 +167,7 @@ fn release(
     }
 }
 
-/// Keeps the place and the bytes of a command behind this many others that wait.
+/// Keeps the place and the bytes of a command that waits behind this many others.
 fn ask(
     asked: &mut VecDeque<Asked>,
     counts: &mut Counts,
@@ -205,14 +209,13 @@ fn place_for(counts: &mut Counts, counted: bool, words: &Words) -> Option<usize>
 }
 
 /// Reads bytes that one side sent, until there is a result or the piece ends. Counts a command when
-/// it waits no more, if the filter lets it and its reply through.
+/// it no longer waits, if the filter of the tap lets it and its reply through.
 ///
 /// The call reads at least one byte of a piece that is not empty. Call it again with the rest of the
 /// piece.
 pub fn count_some(
     tap: &mut CountedTap,
     counts: &mut Counts,
-    filter: &Filter,
     client: u64,
     side: Side,
     piece: &[u8],
@@ -220,9 +223,10 @@ pub fn count_some(
 ) -> Step
     ensures sees { (is_line : Bool) × SeesNext (Some now) side tap.old.connection
         tap.new.connection piece.now result.used result.seen is_line }
-    ensures counts { CountsSeen filter.now client side now tap.old tap.new result.used result.seen
-        counts.old.rows.items counts.new.rows.items }
-    ensures other_side { KeepsOther side tap.old.connection.timed.tap tap.new.connection.timed.tap }
+    ensures counts { CountsSeen tap.old.filter client side now tap.old tap.new result.used
+        result.seen counts.old.rows.items counts.new.rows.items }
+    ensures same_filter { tap.new.filter ≡ tap.old.filter }
+    ensures other_side { KeepsOther side tap.old.connection.tap tap.new.connection.tap }
     ensures within_piece { result.used ≤ length piece.now }
     ensures uses_bytes { 0 < length piece.now → 0 < result.used }
 {
@@ -233,7 +237,14 @@ pub fn count_some(
         is_error: is_error(seen),
         waited: waited_of(now, next.waiting.asked, seen),
     };
-    follow(&mut tap.kept.asked, counts, filter, client, &next, heard);
+    follow(
+        &mut tap.kept.asked,
+        counts,
+        &tap.filter,
+        client,
+        &next,
+        heard,
+    );
     next.step
 }
 
@@ -261,41 +272,38 @@ fn write_counted<W: Sink>(
 fn watch_counted_some<W: Sink>(
     tap: &mut CountedTap,
     counts: &mut Counts,
-    filter: &Filter,
     printing: Printing,
     side: Side,
     piece: &[u8],
     now: Moment,
     writer: &mut W,
 ) -> Watched
-    ensures watches { (what : Seen) × WatchesCounted filter.now printing side now
+    ensures watches { (what : Seen) × WatchesCounted printing side now
         (tap.old, counts.old.rows.items) (tap.new, counts.new.rows.items) piece.now result what
         (W.written writer.old) (W.written writer.new) (W.failures writer.old)
         (W.failures writer.new) }
-    ensures other_side { KeepsOther side tap.old.connection.timed.tap tap.new.connection.timed.tap }
+    ensures other_side { KeepsOther side tap.old.connection.tap tap.new.connection.tap }
     ensures within_piece { result.used ≤ length piece.now }
     ensures uses_bytes { 0 < length piece.now → 0 < result.used }
 {
-    let step = count_some(tap, counts, filter, printing.client, side, piece, now);
-    let printed = write_counted(filter, printing, now, &step.seen, writer);
+    let step = count_some(tap, counts, printing.client, side, piece, now);
+    let printed = write_counted(&tap.filter, printing, now, &step.seen, writer);
     let used = step.used;
     drop(step);
     Watched { used, printed }
 }
 
-/// Reads a piece that one side sent, as [`count_some`] does, and counts all commands that wait no
-/// more. Errors of a side are printed, as without counting, if the filter lets lines about the client
-/// through.
+/// Reads a piece that one side sent, as [`count_some`] does, and counts all commands that no longer
+/// wait. Errors of a side are printed as they are without counting, if the filter of the tap lets
+/// lines about the client through.
 ///
 /// # Errors
 ///
 /// The first error of printing. The tap has read the whole piece, and has tried to print all of its
 /// errors.
-#[tactic(auto, using(crate::proofs::PieceLemmas::keeps_on, crate::proofs::PieceLemmas::watched_more, crate::proofs::PieceLemmas::watched_all))]
 pub fn watch_counted<W: Sink>(
     tap: &mut CountedTap,
     counts: &mut Counts,
-    filter: &Filter,
     printing: Printing,
     side: Side,
     piece: &[u8],
@@ -303,19 +311,40 @@ pub fn watch_counted<W: Sink>(
     writer: &mut W,
 ) -> Result<(), PrintError>
     ensures watches { (all : List Seen) ×
-        WatchesAll (WatchesCounted filter.now printing side now) all
+        WatchesAll (WatchesCounted printing side now) all
         (tap.old, counts.old.rows.items) (tap.new, counts.new.rows.items) piece.now
         (W.written writer.old) (W.written writer.new) (W.failures writer.old)
         (W.failures writer.new) result }
-    ensures other_side { KeepsOther side tap.old.connection.timed.tap tap.new.connection.timed.tap }
+    ensures other_side { KeepsOther side tap.old.connection.tap tap.new.connection.tap }
 {
-    let mut rest = piece;
-    let mut printed = Ok(());
-    while !rest.is_empty() {
-        let watched = watch_counted_some(tap, counts, filter, printing, side, rest, now, writer);
-        printed = printed.and(watched.printed);
-        // At least one byte was read.
-        rest = &rest[watched.used..];
+    let given = Given { printing, now };
+    watch_each(tap, counts, given, side, piece, writer)
+}
+
+impl WatchSome<Given<Moment>> for CountedTap {
+    ghost use Rattle.std.specs.Prelude.{List};
+    ghost use Rattle.resp_stats.specs.declared.row.CommandRow.{CommandRow};
+    ghost use Rattle.resp_tap.specs.CountedTaps.{WatchesCounted};
+    ghost use Rattle.resp_tap.specs.Counting.{CountedTap};
+
+    type Shared = Counts;
+
+    ghost State = { CountedTap × List CommandRow };
+
+    ghost state = { λ tap counts. (tap, counts.rows.items) };
+
+    ghost tap_in = { λ tap. tap.connection.tap };
+
+    ghost watches = { λ given side. WatchesCounted given.printing side given.now };
+
+    fn watch_some<W: Sink>(
+        &mut self,
+        counts: &mut Self::Shared,
+        given: Given<Moment>,
+        side: Side,
+        piece: &[u8],
+        writer: &mut W,
+    ) -> Watched {
+        watch_counted_some(self, counts, given.printing, side, piece, given.now, writer)
     }
-    printed
 }

@@ -13,7 +13,7 @@ use crate::segment::{Segment, write_segments};
 use crate::stamp::Stamp;
 use crate::tap::Tap;
 use crate::watch::Side;
-use resp_value::device::{DeviceFault, Sink};
+use resp_io::device::{DeviceFault, Sink};
 
 /// An incomplete command, reply or value.
 #[derive(Clone, Copy, Debug, PartialEq, Eq)]

@@ -27,21 +27,20 @@ use std::alloc::Global;
 /// ```
 ///
 /// This prints `true`.
-#[derive(Debug, Drop)]
+#[derive(Clone, Debug, Drop)]
 pub struct Filter {
     /// Whether a command is printed only if its reply is an error.
     pub errors: bool,
-    /// The microseconds that a command waits at least, if only slower commands are printed.
+    /// If set, only commands that wait for more microseconds than this are printed.
     pub slower: Option<u64>,
-    /// The names of the commands that are printed, in upper, lower or mixed case. Without a name,
-    /// all are printed.
+    /// The names of the printed commands, in upper, lower or mixed case. If it is empty, commands
+    /// of all names are printed.
     pub names: Vec<Vec<u8>>,
-    /// The glob that one of the keys of a command matches, if only commands with such a key are
-    /// printed.
+    /// If set, only commands with a key that matches this glob are printed.
     pub key: Option<Vec<u8>>,
-    /// The client whose lines are printed, if only one client's are.
+    /// If set, only the lines of this client are printed.
     pub client: Option<u64>,
-    /// Whether all lines about connections are printed, whatever the other parts let through, apart from
+    /// Whether all lines about connections are printed, regardless of the other fields except
     /// `client`.
     pub connections: bool,
 }
@@ -92,7 +91,7 @@ fn longest_name(names: &[Vec<u8>]) -> usize
 }
 
 impl Filter {
-    /// Returns a filter that everything passes. It allocates nothing.
+    /// Returns a filter that lets everything through. It allocates nothing.
     pub fn all(alloc: Global) -> Filter
         ensures errors { result.errors ≡ false }
         ensures slower { result.slower ≡ None }
@@ -111,8 +110,8 @@ impl Filter {
         }
     }
 
-    /// Returns the part of each word of a command that is kept, if so much of a text is shown: enough to
-    /// decide whether the filter lets the command through.
+    /// Returns the part of each word of a command that is kept, if this part of each text is shown.
+    /// It is enough to decide whether the filter lets the command through.
     pub(crate) fn kept_part(&self, shown: ShownPart) -> ShownPart
         ensures kept { result.most ≡ kept_by self.now shown.most }
         ensures enough { IsEnough shown.most result.most }
@@ -151,14 +150,14 @@ impl Filter {
         self.has_no_name() && self.key.is_none()
     }
 
-    /// Returns whether commands with these words are printed, by their name.
+    /// Returns whether commands with these words are printed, judging by their name.
     fn keeps_name(&self, words: &Words) -> bool
         ensures { result ≡ keeps_name self.now words.now }
     {
         self.has_no_name() || is_among(self.names.as_slice(), name_in(words))
     }
 
-    /// Returns whether commands with these words are printed, by their name and their keys.
+    /// Returns whether commands with these words are printed, judging by their name and their keys.
     pub fn keeps_words(&self, words: &Words) -> bool
         ensures { Chooses self.now words.now result }
     {
@@ -171,14 +170,14 @@ impl Filter {
         }
     }
 
-    /// Returns whether a reply is printed that arrived after this delay.
+    /// Returns whether a reply that arrived after this delay is printed.
     pub(crate) fn keeps_answer(&self, is_error: bool, waited: Option<u64>) -> bool
         ensures { result ≡ keeps_answer self.now is_error waited }
     {
         (!self.errors || is_error) && is_late(self.slower, waited)
     }
 
-    /// Returns whether a value is printed that belongs to no command.
+    /// Returns whether a value that belongs to no command is printed.
     fn keeps_loose(&self, is_error: bool) -> bool
         ensures { result ≡ keeps_loose self.now is_error }
     {
@@ -200,8 +199,9 @@ impl Filter {
         }
     }
 
-    /// Returns whether a result of this client is printed. `is_chosen` says whether the command, or
-    /// that of a reply, has words that are printed, and `waited` how many microseconds it waited.
+    /// Returns whether a result of this client is printed. `is_chosen` says whether the words of
+    /// the command, or of the command of a reply, pass the filter. `waited` is how many
+    /// microseconds the command waited.
     pub fn keeps(&self, client: u64, is_chosen: bool, waited: Option<u64>, seen: &Seen) -> bool
         ensures { result ≡ keeps self.now client is_chosen waited seen.now }
     {
@@ -215,22 +215,22 @@ impl Filter {
         self.is_by_reply() || !self.keeps_all()
     }
 
-    /// Returns whether the line is printed that says from where a client is connected.
+    /// Returns whether the line with the address of a connected client is printed.
     pub fn keeps_connected(&self, client: u64) -> bool
         ensures { result ≡ keeps_connected self.now client }
     {
         self.keeps_client(client) && self.connections
     }
 
-    /// Returns whether lines about connections are printed, although no command is cut off.
+    /// Returns whether lines about connections are printed even if no command is cut off.
     fn keeps_ends(&self) -> bool
         ensures { result ≡ keeps_ends self.now }
     {
         self.connections || !self.is_selective()
     }
 
-    /// Returns whether the line is printed that says that a client's connection has gone. If only some
-    /// commands are printed, it is printed with `connections` only.
+    /// Returns whether the line that says that a client's connection is gone is printed. If only
+    /// some commands are printed, this line is printed only with `connections`.
     pub fn keeps_gone(&self, client: u64) -> bool
         ensures { result ≡ keeps_gone self.now client }
     {
@@ -239,7 +239,7 @@ impl Filter {
 
     /// Returns whether to print the line about the side of a client's connection that has closed.
     /// `cut` is the incomplete command or reply of that side. If only some commands are printed, a
-    /// line without an incomplete command or reply is printed with `connections` only.
+    /// line without an incomplete command or reply is printed only with `connections`.
     pub fn keeps_end(&self, client: u64, cut: Option<Cut>) -> bool
         ensures { result ≡ keeps_end self.now client cut }
     {

@@ -12,6 +12,7 @@ ghost use Rattle.resp_tap.specs.declared.seen.Seen.{Seen};
 ghost use Rattle.resp_value.specs.Data.{Datum};
 
 use crate::connection::{ConnectionTap, KeepingTap, Next};
+use crate::each_result::{Given, WatchSome, watch_each};
 use crate::filter::Filter;
 use crate::moment::Moment;
 use crate::note::{Note, is_chosen, note_of, write_filtered};
@@ -20,23 +21,22 @@ use crate::seen::Seen;
 use crate::shown_part::ShownPart;
 use crate::waiting::drop_first;
 use crate::watch::{Side, Watched, stamp_of};
+use resp_io::device::Sink;
 use resp_print::print_error::PrintError;
 use resp_session::words::Words;
-use resp_value::device::Sink;
 use resp_value::limits::Limits;
 use std::alloc::Global;
 use std::collections::VecDeque;
 
 /// A tap whose traffic is printed through a [`Filter`].
 ///
-/// If a filter has names or a key, or prints a command only with its reply, the tap keeps for each command
-/// that waits when it came and whether its words pass. If the reply decides, it also keeps the
-/// first 1,024 bytes of the text of the command's words. It keeps such a text only of a command
-/// behind fewer than 1,024 others that wait, so it keeps at most 1,024 texts. Use the same filter
-/// for all bytes of a connection.
+/// If a filter has names or a key, or prints a command only with its reply, the tap keeps, for each
+/// command that waits, the time at which it arrived and whether its words pass. If the reply
+/// decides, it also keeps the first 1,024 bytes of the text of the command's words. It keeps this
+/// text only for the first 1,024 commands that wait.
 ///
-/// If an allocation fails, the tap keeps no note of the command, nor of the commands after it as long
-/// as it waits.
+/// If an allocation fails, the tap keeps a note neither of the command nor of the commands that
+/// follow while it waits.
 pub type FilteredTap = KeepingTap<Notes>;
 
 /// The notes of the commands that wait.
@@ -53,14 +53,16 @@ impl FilteredTap {
     /// words of the client. Otherwise it keeps one byte more of each word than is shown, or than the
     /// longest name of the filter has, and at least 65. A line of the client is a command too. The
     /// call allocates nothing.
-    pub fn new(alloc: Global, limits: &Limits, shown: ShownPart, filter: &Filter) -> FilteredTap
-        ensures new_connection { IsNewConnection limits.now shown.most
-            (kept_by filter.now shown.most) result.connection }
+    pub fn new(alloc: Global, limits: &Limits, shown: ShownPart, filter: Filter) -> FilteredTap
+        ensures new_connection { IsNewConnection limits.now shown.most (kept_by filter shown.most)
+            result.connection }
+        ensures filter { result.filter ≡ filter }
         ensures nothing_kept { result.kept.notes.items ≡ [] }
     {
         let kept = filter.kept_part(shown);
         KeepingTap {
             connection: ConnectionTap::keeping(alloc, limits, shown, kept),
+            filter,
             kept: Notes {
                 alloc,
                 notes: VecDeque::new(alloc),
@@ -105,7 +107,7 @@ impl Notes {
         }
     }
 
-    /// Keeps the note of a command behind this many others that wait.
+    /// Keeps the note of a command that waits behind this many others.
     fn add(
         &mut self,
         filter: &Filter,
@@ -138,32 +140,32 @@ impl Notes {
 }
 
 /// Reads bytes that one side sent, until there is a result or the piece ends, as
-/// [`watch_some`](crate::watch::watch_some) does, and prints the result if the filter lets it
-/// through. A command whose reply decides is printed before the reply.
+/// [`watch_some`](crate::watch::watch_some) does, and prints the result if the filter of the tap lets
+/// it through. A command whose reply decides is printed before the reply.
 ///
 /// # Errors
 ///
 /// [`Watched::printed`] has the error of printing. The tap has read the bytes in any case.
 pub fn watch_filtered_some<W: Sink>(
     tap: &mut FilteredTap,
-    filter: &Filter,
     printing: Printing,
     side: Side,
     piece: &[u8],
     now: Option<Moment>,
     writer: &mut W,
 ) -> Watched
-    ensures watches { (what : Seen) × WatchesFiltered filter.now printing side now tap.old tap.new
-        piece.now result what (W.written writer.old) (W.written writer.new) (W.failures writer.old)
+    ensures watches { (what : Seen) × WatchesFiltered printing side now tap.old tap.new piece.now
+        result what (W.written writer.old) (W.written writer.new) (W.failures writer.old)
         (W.failures writer.new) }
-    ensures other_side { KeepsOther side tap.old.connection.timed.tap tap.new.connection.timed.tap }
+    ensures other_side { KeepsOther side tap.old.connection.tap tap.new.connection.tap }
     ensures within_piece { result.used ≤ length piece.now }
     ensures uses_bytes { 0 < length piece.now → 0 < result.used }
 {
-    let options = tap.connection.timed.tap.options(printing);
+    let options = tap.connection.tap.options(printing);
     let next = tap.connection.step(side, piece, now);
     let seen = &next.step.seen;
     let stamp = stamp_of(now, next.waiting.asked, seen);
+    let filter = &tap.filter;
     let note = tap.kept.notes.get(next.waiting.next);
     let is_chosen = is_chosen(filter, note, seen);
     let printed = write_filtered(
@@ -183,7 +185,7 @@ pub fn watch_filtered_some<W: Sink>(
 }
 
 /// Reads a piece that one side sent, and prints all commands, replies and pushes in it that the
-/// filter lets through, as [`watch_filtered_some`] does.
+/// filter of the tap lets through, as [`watch_filtered_some`] does.
 ///
 /// # Errors
 ///
@@ -195,16 +197,16 @@ pub fn watch_filtered_some<W: Sink>(
 /// From [samples](../../samples/src/tapping.rt):
 ///
 /// ```rust
-/// let mut tap = FilteredTap::new(alloc, &Limits::standard(), ShownPart::all(), &filter);
+/// let mut tap = FilteredTap::new(alloc, &Limits::standard(), ShownPart::all(), filter);
 /// let mut text = MemorySink::new(alloc, 4_096, 4_096)?;
 /// let printing = Printing {
 ///     client: 1,
 ///     shows_passwords: false,
 /// };
 /// let sent = b"*1\r\n$4\r\nPING\r\n*2\r\n$4\r\nINCR\r\n$1\r\na\r\n";
-/// watch_filtered(&mut tap, &filter, printing, Side::Client, sent, None, &mut text)?;
+/// watch_filtered(&mut tap, printing, Side::Client, sent, None, &mut text)?;
 /// let heard = b"+PONG\r\n-WRONGTYPE not a number\r\n";
-/// watch_filtered(&mut tap, &filter, printing, Side::Server, heard, None, &mut text)?;
+/// watch_filtered(&mut tap, printing, Side::Server, heard, None, &mut text)?;
 /// print!(rt; "{}", str::from_utf8(text.bytes())?)?;
 /// ```
 ///
@@ -216,10 +218,8 @@ pub fn watch_filtered_some<W: Sink>(
 /// client 1 reply 2
 ///   error "WRONGTYPE not a number" 22
 /// ```
-#[tactic(auto, using(crate::proofs::PieceLemmas::keeps_on, crate::proofs::PieceLemmas::watched_more, crate::proofs::PieceLemmas::watched_all))]
 pub fn watch_filtered<W: Sink>(
     tap: &mut FilteredTap,
-    filter: &Filter,
     printing: Printing,
     side: Side,
     piece: &[u8],
@@ -227,18 +227,36 @@ pub fn watch_filtered<W: Sink>(
     writer: &mut W,
 ) -> Result<(), PrintError>
     ensures watches { (all : List Seen) ×
-        WatchesAll (WatchesFiltered filter.now printing side now) all tap.old tap.new piece.now
+        WatchesAll (WatchesFiltered printing side now) all tap.old tap.new piece.now
         (W.written writer.old) (W.written writer.new) (W.failures writer.old)
         (W.failures writer.new) result }
-    ensures other_side { KeepsOther side tap.old.connection.timed.tap tap.new.connection.timed.tap }
+    ensures other_side { KeepsOther side tap.old.connection.tap tap.new.connection.tap }
 {
-    let mut rest = piece;
-    let mut printed = Ok(());
-    while !rest.is_empty() {
-        let watched = watch_filtered_some(tap, filter, printing, side, rest, now, writer);
-        printed = printed.and(watched.printed);
-        // At least one byte was read.
-        rest = &rest[watched.used..];
+    let given = Given { printing, now };
+    watch_each(tap, &mut (), given, side, piece, writer)
+}
+
+impl WatchSome<Given<Option<Moment>>> for FilteredTap {
+    ghost use Rattle.resp_tap.specs.Filtering.{FilteredTap, WatchesFiltered};
+
+    type Shared = ();
+
+    ghost State = { FilteredTap };
+
+    ghost state = { λ tap _. tap };
+
+    ghost tap_in = { λ tap. tap.connection.tap };
+
+    ghost watches = { λ given side. WatchesFiltered given.printing side given.now };
+
+    fn watch_some<W: Sink>(
+        &mut self,
+        _shared: &mut Self::Shared,
+        given: Given<Option<Moment>>,
+        side: Side,
+        piece: &[u8],
+        writer: &mut W,
+    ) -> Watched {
+        watch_filtered_some(self, given.printing, side, piece, given.now, writer)
     }
-    printed
 }

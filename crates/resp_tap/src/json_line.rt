@@ -14,12 +14,12 @@ use crate::called::command_name;
 use crate::end::Cut;
 use crate::seen::{Place, Seen};
 use crate::segment::{Segment, write_segments};
-use crate::stamp::write_time;
+use crate::stamp::write_utc;
 use crate::watch::Side;
+use resp_io::device::{DeviceFault, Sink};
 use resp_json::text::write_json_text;
 use resp_print::text::write_text;
 use resp_session::words::Words;
-use resp_value::device::{DeviceFault, Sink};
 use resp_value::value::Value;
 
 /// The most bytes of an error or an address that are printed.
@@ -34,8 +34,8 @@ pub(crate) struct Facts {
     pub(crate) is_line: bool,
     /// The number of its bytes.
     pub(crate) size: u64,
-    /// The time of day in UTC, in microseconds since midnight.
-    pub(crate) of_day: u64,
+    /// The time in UTC, in microseconds since 1970.
+    pub(crate) utc: u64,
     /// The microseconds that the command of a reply waited, if they are known.
     pub(crate) waited: Option<u64>,
 }
@@ -97,12 +97,12 @@ fn write_part<W: Sink>(text: &[u8], writer: &mut W) -> Result<(), DeviceFault>
     write_json_text(writer, shown_part(text))
 }
 
-/// Writes the time of day, and the end of a line.
-pub(crate) fn write_json_end<W: Sink>(of_day: u64, writer: &mut W) -> Result<(), DeviceFault>
+/// Writes the date and the time of day, and the end of a line.
+pub(crate) fn write_json_end<W: Sink>(utc: u64, writer: &mut W) -> Result<(), DeviceFault>
     ensures { WritesText (W.written writer.old) (W.written writer.new) (W.failures writer.old)
-        (W.failures writer.new) result (end_json of_day) }
+        (W.failures writer.new) result (end_json utc) }
 {
-    write_time(b",\"time\":\"", of_day, writer)?;
+    write_utc(b",\"time\":\"", utc, writer)?;
     write_text(writer, b"\"}\n")
 }
 
@@ -161,7 +161,7 @@ fn write_command<W: Sink>(
             Segment::TextIf(facts.is_line, b",\"inline\":true"),
             Segment::Number(b",\"words\":", words),
             Segment::Number(b",\"size\":", facts.size),
-            Segment::JsonEnd(facts.of_day),
+            Segment::JsonEnd(facts.utc),
         ],
         writer,
     )
@@ -219,7 +219,7 @@ fn write_answer<'a, W: Sink>(
             Segment::Text(type_word(value)),
             Segment::Number(b"\",\"size\":", facts.size),
             Segment::Member(b",\"error\":", error_text(value)),
-            Segment::JsonEnd(facts.of_day),
+            Segment::JsonEnd(facts.utc),
         ],
         writer,
     )
@@ -235,7 +235,7 @@ fn write_push<W: Sink>(facts: Facts, writer: &mut W) -> Result<(), DeviceFault>
             Segment::Number(b"{\"client\":", facts.client),
             Segment::Text(b",\"kind\":\"push\",\"type\":\"push"),
             Segment::Number(b"\",\"size\":", facts.size),
-            Segment::JsonEnd(facts.of_day),
+            Segment::JsonEnd(facts.utc),
         ],
         writer,
     )
@@ -270,7 +270,7 @@ fn write_refused<W: Sink>(
             Segment::Text(name),
             Segment::Number(b"\",\"at\":", at),
             place_segment(place),
-            Segment::JsonEnd(facts.of_day),
+            Segment::JsonEnd(facts.utc),
         ],
         writer,
     )
@@ -329,18 +329,18 @@ pub fn write_remark_json<'a, W: Sink>(
     kind: &'a [u8],
     member: &'a [u8],
     text: &'a [u8],
-    of_day: u64,
+    utc: u64,
     writer: &mut W,
 ) -> Result<(), DeviceFault>
     ensures { WritesText (W.written writer.old) (W.written writer.new) (W.failures writer.old)
-        (W.failures writer.new) result (remark_json client kind.now member.now text.now of_day) }
+        (W.failures writer.new) result (remark_json client kind.now member.now text.now utc) }
 {
     write_segments(
         &[
             Segment::Number(b"{\"client\":", client),
             Segment::Text(kind),
             Segment::Member(member, text),
-            Segment::JsonEnd(of_day),
+            Segment::JsonEnd(utc),
         ],
         writer,
     )
@@ -374,11 +374,11 @@ pub fn write_closed_json<W: Sink>(
     name: &[u8],
     side: Side,
     cut: Option<Cut>,
-    of_day: u64,
+    utc: u64,
     writer: &mut W,
 ) -> Result<(), DeviceFault>
     ensures { WritesText (W.written writer.old) (W.written writer.new) (W.failures writer.old)
-        (W.failures writer.new) result (closed_json client name.now side cut of_day) }
+        (W.failures writer.new) result (closed_json client name.now side cut utc) }
 {
     write_segments(
         &[
@@ -387,7 +387,7 @@ pub fn write_closed_json<W: Sink>(
             Segment::Member(b",\"name\":", name),
             cut_place(cut),
             Segment::NumberIf(b",\"size\":", cut.map(|cut| cut.bytes)),
-            Segment::JsonEnd(of_day),
+            Segment::JsonEnd(utc),
         ],
         writer,
     )

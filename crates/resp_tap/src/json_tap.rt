@@ -14,6 +14,7 @@ ghost use Rattle.resp_tap.specs.declared.seen.Seen.{Seen};
 
 use crate::called::{Called, command_name, is_chosen_called, name_of_called};
 use crate::connection::{ConnectionTap, KeepingTap, Next};
+use crate::each_result::{WatchSome, watch_each};
 use crate::filter::Filter;
 use crate::json_line::{Facts, SHOWN, write_seen_json};
 use crate::moment::Moment;
@@ -23,20 +24,19 @@ use crate::shown_part::ShownPart;
 use crate::taken::{NONE_TAKEN, Taken};
 use crate::waiting::drop_first;
 use crate::watch::{Side, Watched, waited_of};
+use resp_io::device::Sink;
 use resp_print::print_error::PrintError;
 use resp_session::words::Words;
-use resp_value::device::Sink;
 use resp_value::limits::Limits;
 use std::alloc::Global;
 use std::collections::VecDeque;
 
 /// A tap whose traffic is printed as JSON, through a [`Filter`].
 ///
-/// The tap keeps the name of each command that waits, and whether its words pass. Use the same
-/// filter for all bytes of a connection.
+/// The tap keeps the name of each command that waits, and whether its words pass.
 ///
-/// If an allocation fails, the tap does not keep the command, nor the commands after it as long as it
-/// waits. The lines of their replies have no name then.
+/// If an allocation fails, the tap keeps neither the command nor the commands that follow while it
+/// waits. The lines of their replies have no name.
 pub type JsonTap = KeepingTap<Calls>;
 
 /// The names of the commands that wait, and the bytes of incomplete ones.
@@ -49,13 +49,15 @@ pub struct Calls {
 }
 
 impl JsonTap {
-    /// Returns a tap of a new connection for this filter, which is read within these limits. At most
-    /// 1,025 bytes of each text of the server are kept. If the filter has a key, whole words of the
-    /// client are kept, and otherwise at most 1,025 bytes of each, or one more than its longest name
-    /// has. A line of the client is a command too. It allocates nothing.
-    pub fn new(alloc: Global, limits: &Limits, filter: &Filter) -> JsonTap
+    /// Returns a tap of a new connection for this filter, which is read within these limits. At
+    /// most 1,025 bytes of each text of the server are kept. If the filter has a key, whole words
+    /// of the client are kept. Otherwise at most 1,025 bytes of each word are kept, or one byte
+    /// more than the longest name of the filter if that is more. A line of the client is a command
+    /// too. It allocates nothing.
+    pub fn new(alloc: Global, limits: &Limits, filter: Filter) -> JsonTap
         ensures new_connection { IsNewConnection limits.now (Some 1024)
-            (kept_by filter.now (Some 1024)) result.connection }
+            (kept_by filter (Some 1024)) result.connection }
+        ensures filter { result.filter ≡ filter }
         ensures nothing_kept { result.kept.calls.items ≡ [] }
         ensures no_bytes { (result.kept.taken.sent ≡ 0) × (result.kept.taken.received ≡ 0) }
     {
@@ -63,6 +65,7 @@ impl JsonTap {
         let kept = filter.kept_part(shown);
         KeepingTap {
             connection: ConnectionTap::keeping(alloc, limits, shown, kept),
+            filter,
             kept: Calls {
                 calls: VecDeque::new(alloc),
                 taken: NONE_TAKEN,
@@ -71,7 +74,7 @@ impl JsonTap {
     }
 }
 
-/// Adds a command that waits, or drops those that wait no more, after a result. `is_chosen` says
+/// Adds a command that waits, or drops those that no longer wait, after a result. `is_chosen` says
 /// whether the words of its command are printed.
 fn follow(calls: &mut VecDeque<Called>, next: &Next, is_chosen: bool)
     ensures { CalledAfter is_chosen next.now.step.seen next.now.waiting.count next.now.left
@@ -84,7 +87,7 @@ fn follow(calls: &mut VecDeque<Called>, next: &Next, is_chosen: bool)
     }
 }
 
-/// Keeps the name of a command behind this many others that wait.
+/// Keeps the name of a command that waits behind this many others.
 fn keep(calls: &mut VecDeque<Called>, before: u64, is_chosen: bool, words: &Words)
     ensures { IsAdded (IsCalled is_chosen words.now) calls.old.items calls.new.items }
 {
@@ -119,7 +122,7 @@ fn write_kept<W: Sink>(
 }
 
 /// Reads bytes that one side sent, until there is a result or the piece ends, and prints the result
-/// as a line of JSON if the filter lets it through. `client` is the number of the client.
+/// as a line of JSON if the filter of the tap lets it through. `client` is the number of the client.
 ///
 /// The call reads at least one byte of a piece that is not empty. Call it again with the rest of the
 /// piece.
@@ -129,30 +132,30 @@ fn write_kept<W: Sink>(
 /// [`Watched::printed`] has the error of printing. The tap has read the bytes in any case.
 pub fn watch_json_some<W: Sink>(
     tap: &mut JsonTap,
-    filter: &Filter,
     client: u64,
     side: Side,
     piece: &[u8],
     now: Moment,
     writer: &mut W,
 ) -> Watched
-    ensures watches { (what : Seen) × WatchesJson filter.now client side now tap.old tap.new
+    ensures watches { (what : Seen) × WatchesJson client side now tap.old tap.new
         piece.now result what (W.written writer.old) (W.written writer.new) (W.failures writer.old)
         (W.failures writer.new) }
-    ensures other_side { KeepsOther side tap.old.connection.timed.tap tap.new.connection.timed.tap }
+    ensures other_side { KeepsOther side tap.old.connection.tap tap.new.connection.tap }
     ensures within_piece { result.used ≤ length piece.now }
     ensures uses_bytes { 0 < length piece.now → 0 < result.used }
 {
     let next = tap.connection.step(side, piece, Some(now));
     let seen = &next.step.seen;
     let size = tap.kept.taken.take(side, next.step.used, seen);
+    let filter = &tap.filter;
     let called = tap.kept.calls.get(next.waiting.next);
     let is_chosen = is_chosen_called(filter, called, seen);
     let facts = Facts {
         client,
         is_line: next.is_line,
         size,
-        of_day: now.of_day,
+        utc: now.utc.micros,
         waited: waited_of(now, next.waiting.asked, seen),
     };
     let name = name_of_called(called);
@@ -164,7 +167,7 @@ pub fn watch_json_some<W: Sink>(
 }
 
 /// Reads a piece that one side sent, and prints all commands, replies and pushes in it that the
-/// filter lets through, as [`watch_json_some`] does.
+/// filter of the tap lets through, as [`watch_json_some`] does.
 ///
 /// # Errors
 ///
@@ -176,24 +179,21 @@ pub fn watch_json_some<W: Sink>(
 /// From [samples](../../samples/src/tapping.rt):
 ///
 /// ```rust
-/// let all = Filter::all(alloc);
-/// let mut tap = JsonTap::new(alloc, &Limits::standard(), &all);
+/// let mut tap = JsonTap::new(alloc, &Limits::standard(), Filter::all(alloc));
 /// let mut text = MemorySink::new(alloc, 4_096, 4_096)?;
-/// watch_json(&mut tap, &all, 1, Side::Client, b"*1\r\n$4\r\nPING\r\n", sent, &mut text)?;
-/// watch_json(&mut tap, &all, 1, Side::Server, b"-ERR no\r\n", heard, &mut text)?;
+/// watch_json(&mut tap, 1, Side::Client, b"*1\r\n$4\r\nPING\r\n", sent, &mut text)?;
+/// watch_json(&mut tap, 1, Side::Server, b"-ERR no\r\n", heard, &mut text)?;
 /// print!(rt; "{}", str::from_utf8(text.bytes())?)?;
 /// ```
 ///
 /// If the reply arrives 120 microseconds after the command, this prints:
 ///
 /// ```text
-/// {"client":1,"kind":"command","number":1,"command":"PING","words":1,"size":14,"time":"05:36:56.123456"}
-/// {"client":1,"kind":"reply","number":1,"command":"PING","micros":120,"type":"error","size":9,"error":"ERR no","time":"05:36:56.123576"}
+/// {"client":1,"kind":"command","number":1,"command":"PING","words":1,"size":14,"time":"2026-11-30T05:36:56.123456Z"}
+/// {"client":1,"kind":"reply","number":1,"command":"PING","micros":120,"type":"error","size":9,"error":"ERR no","time":"2026-11-30T05:36:56.123576Z"}
 /// ```
-#[tactic(auto, using(crate::proofs::PieceLemmas::keeps_on, crate::proofs::PieceLemmas::watched_more, crate::proofs::PieceLemmas::watched_all))]
 pub fn watch_json<W: Sink>(
     tap: &mut JsonTap,
-    filter: &Filter,
     client: u64,
     side: Side,
     piece: &[u8],
@@ -201,18 +201,44 @@ pub fn watch_json<W: Sink>(
     writer: &mut W,
 ) -> Result<(), PrintError>
     ensures watches { (all : List Seen) ×
-        WatchesAll (WatchesJson filter.now client side now) all tap.old tap.new piece.now
+        WatchesAll (WatchesJson client side now) all tap.old tap.new piece.now
         (W.written writer.old) (W.written writer.new) (W.failures writer.old)
         (W.failures writer.new) result }
-    ensures other_side { KeepsOther side tap.old.connection.timed.tap tap.new.connection.timed.tap }
+    ensures other_side { KeepsOther side tap.old.connection.tap tap.new.connection.tap }
 {
-    let mut rest = piece;
-    let mut printed = Ok(());
-    while !rest.is_empty() {
-        let watched = watch_json_some(tap, filter, client, side, rest, now, writer);
-        printed = printed.and(watched.printed);
-        // At least one byte was read.
-        rest = &rest[watched.used..];
+    let given = JsonGiven { client, now };
+    watch_each(tap, &mut (), given, side, piece, writer)
+}
+
+/// How the results in a piece are printed as JSON.
+#[derive(Clone, Copy)]
+pub(crate) struct JsonGiven {
+    /// The number of the client.
+    pub(crate) client: u64,
+    pub(crate) now: Moment,
+}
+
+impl WatchSome<JsonGiven> for JsonTap {
+    ghost use Rattle.resp_tap.specs.JsonTaps.{JsonTap, WatchesJson};
+
+    type Shared = ();
+
+    ghost State = { JsonTap };
+
+    ghost state = { λ tap _. tap };
+
+    ghost tap_in = { λ tap. tap.connection.tap };
+
+    ghost watches = { λ given side. WatchesJson given.client side given.now };
+
+    fn watch_some<W: Sink>(
+        &mut self,
+        _shared: &mut Self::Shared,
+        given: JsonGiven,
+        side: Side,
+        piece: &[u8],
+        writer: &mut W,
+    ) -> Watched {
+        watch_json_some(self, given.client, side, piece, given.now, writer)
     }
-    printed
 }

@@ -5,8 +5,8 @@ ghost use Rattle.std.specs.Bool.{MatchBool};
 ghost use Rattle.resp_commands.specs.Keys.{AreKeys};
 ghost use Rattle.resp_tap.specs.Keyed.{HasKeyLike, IsFirstArgument, IsKeyed, IsUnkeyed, name_in};
 
+use resp_commands::glob::matches;
 use resp_commands::{Arguments, KeyPlaces, Keys, fixed_key_places, key_places, row_of};
-use resp_glob::matches;
 use resp_session::words::Words;
 
 /// Returns whether a glob matches one of the keys of a command. The table of `resp_commands` says
@@ -51,7 +51,7 @@ fn first_argument(words: &Words) -> Option<&[u8]>
     }
 }
 
-/// Returns the places of the keys of a command, by its row of the table.
+/// Returns the places of the keys of a command, given its row of the table.
 fn places_of(keys: &Keys, words: &Words) -> KeyPlaces
     ensures { AreKeys keys.now (drop 1 words.now) result }
 {

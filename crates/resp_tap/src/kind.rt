@@ -1,4 +1,4 @@
-//! How a command is answered.
+//! How a server replies to a command.
 
 ghost use Rattle.std.specs.Prelude.{◌≡◌, ◌-◌, ◌<◌, drop, length};
 ghost use Rattle.std.specs.List.{list_any};
@@ -9,8 +9,8 @@ use resp_session::names::is_name;
 use resp_session::words::Words;
 use resp_value::version::Version;
 
-/// The commands that subscribe and unsubscribe. The server confirms each of their channels by a
-/// message with the command's name.
+/// The commands that subscribe and unsubscribe. The server confirms each of their channels with a
+/// message that has the command's name.
 #[derive(Clone, Copy, Debug, PartialEq, Eq)]
 pub enum Verb {
     Subscribe,
@@ -21,7 +21,7 @@ pub enum Verb {
     Sunsubscribe,
 }
 
-/// How a command is answered.
+/// How a server replies to a command.
 #[derive(Clone, Copy, Debug, PartialEq, Eq)]
 pub enum CommandKind {
     /// The command has exactly one reply.
@@ -34,13 +34,13 @@ pub enum CommandKind {
     Reset,
     /// The command has no reply: REPLCONF with ACK or GETACK.
     Silent,
-    /// The command is SUBSCRIBE, PSUBSCRIBE, SSUBSCRIBE or one of their UN- forms. It has a
-    /// confirmation for each channel that it names, or an error. If it names no channel, it has a
-    /// confirmation for each channel of its class that the connection subscribes to, or for none.
+    /// The command is SUBSCRIBE, PSUBSCRIBE, SSUBSCRIBE or one of their UN- forms. The server sends
+    /// a confirmation for each channel that the command names, or an error. If the command names no
+    /// channel, the server sends a confirmation for each channel of its class that the connection
+    /// is subscribed to, or one without a channel if there is no such channel.
     Subscribing { verb: Verb, channels: u64 },
-    /// The values after the replies to the commands before this command are paired with no command:
-    /// MONITOR, SYNC, PSYNC, CLIENT REPLY, SCRIPT DEBUG, and REPLCONF with ACK or GETACK after another
-    /// option.
+    /// After the replies to the earlier commands, values are paired with no command: MONITOR, SYNC,
+    /// PSYNC, CLIENT REPLY, SCRIPT DEBUG, and REPLCONF with ACK or GETACK after another option.
     Unpairing,
 }
 
@@ -105,7 +105,7 @@ fn version_worded(word: &[u8]) -> CommandKind
     CommandKind::Plain
 }
 
-/// Returns the confirmations that answer a command of this name.
+/// Returns the kind of the confirmations that a command of this name gets.
 pub(crate) fn verb_named(name: &[u8]) -> Option<Verb>
     ensures { result ≡ verb_named name.now }
 {
@@ -136,7 +136,8 @@ fn kind_by_verb(verb: Option<Verb>, channels: u64) -> CommandKind
     )
 }
 
-/// Returns how a command is answered. Its first word is its name, in upper, lower or mixed case.
+/// Returns how a server replies to a command. Its first word is its name, in upper, lower or mixed
+/// case.
 pub fn command_kind(words: &Words) -> CommandKind
     requires { 0 < length words.now }
     ensures { result ≡ command_kind words.now }

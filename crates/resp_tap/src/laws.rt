@@ -3,20 +3,18 @@
 ghost use Rattle.resp_tap.specs.KeptLaws.{EnoughIsKept, KeptPartsTellTheSame, KeptWordsTellTheSame};
 ghost use Rattle.resp_tap.specs.SecretLaws.{SecretsAreRedactedSo};
 ghost use Rattle.resp_tap.specs.Streams.{CountsReplies, TellsTheConnection};
-ghost use Rattle.resp_tap.specs.TimeLaws.{PrintsAsPlayed, TimesAreToldSo};
-ghost use Rattle.resp_tap.specs.Ways.{VisitsAddUp};
+ghost use Rattle.resp_tap.specs.TimeLaws.{DatesAreToldSo, PrintsAsPlayed, TimesAreToldSo};
 
 use resp_value::laws as grammar;
-
-/// Successive visits of a [`Way`](crate::way::Way) forward what one visit of all their bytes would
-/// forward: the bytes written, followed by the bytes that wait, are the bytes read, in order.
-pub fn visits_add_up()
-    ensures { VisitsAddUp }
-{}
 
 /// Worked examples of times of day: hours, minutes, and seconds with six decimals.
 pub fn times_are_told_so()
     ensures { TimesAreToldSo }
+{}
+
+/// Worked examples of dates with times of day, of leap years, and of the last time that is printed.
+pub fn dates_are_told_so()
+    ensures { DatesAreToldSo }
 {}
 
 /// Without a time, replies and pushes of which all bytes are printed are printed as `resp loop` prints
@@ -45,8 +43,8 @@ pub fn replies_are_counted()
     ensures { CountsReplies }
 {}
 
-/// The kept part of a value is an error exactly if the value is one, and has as many levels. So a
-/// filter, the counts and the name of a connection follow the whole values.
+/// The kept part of a value is an error exactly if the value is one, and has the same number of
+/// levels. So a filter, the counts and the name of a connection follow the whole values.
 pub fn kept_parts_tell_the_same()
     ensures { KeptPartsTellTheSame }
 {}

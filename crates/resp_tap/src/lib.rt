@@ -2,15 +2,17 @@
 //! replies and pushes are reported.
 //!
 //! [`tap::Tap`] has no socket. It receives the bytes that both sides of a connection send, and
-//! reports each command, reply and push. [`timed::TimedTap`] also measures how long each command
-//! waited for its reply. [`watch::watch`] prints the traffic as `resp tap` does,
-//! [`json_tap::watch_json`] prints it as JSON, and [`way::Way`] forwards the bytes of one direction.
+//! reports each command, reply and push. It knows how long each command has waited for its reply.
+//! [`watch::watch`] prints the traffic as `resp tap` does, and [`json_tap::watch_json`] prints it as
+//! JSON.
 #![tactic(auto)]
 
 mod called;
 pub mod client_name;
 pub mod connection;
 pub mod counted;
+mod date;
+mod each_result;
 pub mod end;
 pub mod filter;
 pub mod filtered;
@@ -35,10 +37,8 @@ mod side_reader;
 pub mod stamp;
 mod taken;
 pub mod tap;
-pub mod timed;
 mod waiting;
 pub mod watch;
-pub mod way;
 
 pub use client_name::ClientName;
 pub use connection::ConnectionTap;
@@ -47,9 +47,8 @@ pub use end::Cut;
 pub use filter::Filter;
 pub use filtered::FilteredTap;
 pub use json_tap::JsonTap;
-pub use moment::Moment;
+pub use moment::{Moment, Utc};
 pub use print::{Printing, TextOptions};
 pub use seen::{Place, Seen, Step};
 pub use shown_part::ShownPart;
 pub use tap::Tap;
-pub use timed::TimedTap;

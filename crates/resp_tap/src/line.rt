@@ -1,10 +1,10 @@
 //! The commands of a connection that wait for replies, and the command that a value belongs to.
 
-ghost use Rattle.std.specs.Prelude.{◌≡◌, ◌≢◌, ◌<◌, ◌≤◌, ◌+◌, ℕ, List, true, false, [], ◌∷◌, length, OnOk, OnErr};
+ghost use Rattle.std.specs.Prelude.{◌≡◌, ◌≢◌, ◌<◌, ◌≤◌, ◌+◌, ℕ, List, true, false, [], ◌∷◌, length, option_map, slice_get, OnOk, OnErr};
 ghost use Rattle.resp_value.specs.Values.{datum_of};
 ghost use Rattle.resp_session.specs.Heard.{is_push};
 ghost use Rattle.resp_session.specs.Reading.{greater_version, is_refusal};
-ghost use Rattle.resp_tap.specs.LinesOf.{line_of};
+ghost use Rattle.resp_tap.specs.LinesOf.{DropsFirst, MayAdd, first_of, kept_in, line_of};
 ghost use Rattle.resp_tap.specs.Watching.{place_by_kind, place_on};
 ghost use Rattle.resp_tap.specs.Lines.{after_confirmation, after_reply, asked_by_kind, begins_reply, confirmed, confirms, due_of, has_all, is_confirmation, is_free, is_listening, is_notification, is_reset, is_subscribed, is_two, asked_at, asked_by_first, line_after, line_sent, new_line, next_version, no_subscriptions, number_by_first, number_first, number_for, number_in_class, number_of_reply, open_after, resumed, same_verb, settled, subscriptions_after, subscriptions_by, version_for};
 
@@ -23,6 +23,13 @@ pub(crate) struct Due {
     pub(crate) kind: CommandKind,
 }
 
+/// A command that waits, and what is kept of it.
+#[derive(Debug, Drop)]
+pub(crate) struct Pending<T> {
+    pub(crate) due: Due,
+    pub(crate) kept: T,
+}
+
 /// The number of subscriptions of a connection.
 #[derive(Clone, Copy, Debug, PartialEq, Eq)]
 pub(crate) struct Subscriptions {
@@ -31,13 +38,14 @@ pub(crate) struct Subscriptions {
     pub(crate) shards: u64,
 }
 
-/// What is known of a connection between two values of the server.
+/// The state of a connection between two values of the server. Something is kept of each command
+/// that waits.
 #[derive(Drop)]
-pub(crate) struct Line {
+pub(crate) struct Line<T> {
     pub(crate) version: Version,
     /// The commands that wait. A command of the kind `Unpairing` waits for a RESET.
-    pub(crate) due: VecDeque<Due>,
-    /// The number of confirmations that the first of them has had.
+    pub(crate) pending: VecDeque<Pending<T>>,
+    /// The number of confirmations that the first of them has received.
     pub(crate) heard: u64,
     pub(crate) subscriptions: Subscriptions,
     /// Whether the next command is paired with its reply.
@@ -240,8 +248,8 @@ fn begins_reply(piece: &[u8]) -> bool
     piece.first().is_some_and(|byte| *byte != b'>')
 }
 
-/// Returns the place among the commands that wait of the command that the next reply belongs to, if
-/// the first has this kind.
+/// Returns the index, among the commands that wait, of the command that the next reply belongs to.
+/// The first of them has this kind.
 fn asked_by_first(kind: CommandKind) -> usize
     ensures { result ≡ asked_by_first kind }
 {
@@ -261,14 +269,14 @@ fn place_by_kind(number: u64, kind: CommandKind) -> Place
     }
 }
 
-impl Line {
+impl<T: Drop> Line<T> {
     /// Returns the state of a new connection. It allocates nothing.
-    pub(crate) fn new(alloc: Global) -> Line
+    pub(crate) fn new(alloc: Global) -> Line<T>
         ensures { line_of result ≡ new_line }
     {
         Line {
             version: Version::Two,
-            due: VecDeque::new(alloc),
+            pending: VecDeque::new(alloc),
             heard: 0,
             subscriptions: Subscriptions::none(),
             is_open: true,
@@ -289,22 +297,28 @@ impl Line {
         }
     }
 
-    /// Records a command. After a value that no command asked for nothing is recorded.
+    /// Records a command, and keeps `kept` while it waits. After a value that no command asked for,
+    /// nothing is recorded.
     ///
     /// # Errors
     ///
     /// `AllocError` if an allocation fails. Then nothing is changed.
-    pub(crate) fn send(&mut self, number: u64, kind: CommandKind) -> Result<(), AllocError>
+    #[tactic(auto, using(crate::proofs::TimeLemmas::due_added))]
+    pub(crate) fn send(&mut self, number: u64, kind: CommandKind, kept: T) -> Result<(), AllocError>
         ensures sent { OnOk result (line_of self.new ≡ line_sent number kind (line_of self.old)) }
         ensures failed { OnErr result ((line_of self.old).is_lost ≡ false ×
             (due_of number kind (line_of self.old).is_open ≢ [])) }
         ensures unchanged { OnErr result (line_of self.new ≡ line_of self.old) }
+        ensures kept { MayAdd kept self.old self.new }
     {
         if self.is_lost {
             return Ok(());
         }
-        if self.waits_for(kind) && self.due.push_back(Due { number, kind }).is_err() {
-            return Err(AllocError);
+        if self.waits_for(kind) {
+            let due = Due { number, kind };
+            if self.pending.push_back(Pending { due, kept }).is_err() {
+                return Err(AllocError);
+            }
         }
         match kind {
             CommandKind::Unpairing => self.is_open = false,
@@ -328,23 +342,42 @@ impl Line {
         if self.is_lost {
             return Version::Three;
         }
-        self.due.front().map_or(self.version, |first| version_for(self.version, first.kind))
+        self.pending.front().map_or(
+            self.version,
+            |first| version_for(self.version, first.due.kind),
+        )
     }
 
     /// Returns the number of commands that wait.
     pub(crate) fn waiting(&self) -> u64
         ensures { result ≡ length (line_of self.now).due }
     {
-        self.due.len() as u64
+        self.pending.len() as u64
     }
 
-    /// Returns the place among the commands that wait of the command that the next reply belongs to.
+    /// Returns the index, among the commands that wait, of the command that the next reply belongs
+    /// to.
     pub(crate) fn asked_at(&self) -> usize
         ensures { result ≡ asked_at (line_of self.now).due }
     {
-        self.due
+        self.pending
             .front()
-            .map_or(0, |first| asked_by_first(first.kind))
+            .map_or(0, |first| asked_by_first(first.due.kind))
+    }
+
+    /// Returns the first command that waits.
+    fn first(&self) -> Option<Due>
+        ensures { result ≡ first_of (line_of self.now).due }
+    {
+        self.pending.front().map(|first| first.due)
+    }
+
+    /// Returns what is kept of the command at this index, among the commands that wait.
+    pub(crate) fn kept_at(&self, index: usize) -> Option<&T>
+        ensures { option_map (λ kept. kept.now) result ≡
+            slice_get (kept_in self.now.pending.items) index }
+    {
+        self.pending.get(index).map(|pending| &pending.kept)
     }
 
     /// Returns the place of a value that begins now.
@@ -354,17 +387,18 @@ impl Line {
         if self.is_lost {
             return Place::Value;
         }
-        self.due.front().map_or(
+        self.pending.front().map_or(
             Place::Value,
-            |first| place_by_kind(first.number, first.kind),
+            |first| place_by_kind(first.due.number, first.due.kind),
         )
     }
 
     /// Records the first byte of a value, with which the piece begins.
     pub(crate) fn settle(&mut self, piece: &[u8])
-        ensures { line_of self.new ≡ settled piece.now (line_of self.old) }
+        ensures settled { line_of self.new ≡ settled piece.now (line_of self.old) }
+        ensures same_pending { self.new.pending ≡ self.old.pending }
     {
-        if self.due.is_empty() && (begins_reply(piece) && !self.is_listening()) {
+        if self.pending.is_empty() && (begins_reply(piece) && !self.is_listening()) {
             self.is_lost = true;
         }
     }
@@ -373,6 +407,7 @@ impl Line {
     pub(crate) fn hear(&mut self, value: &Value) -> Option<u64>
         ensures number { result ≡ number_for (line_of self.old) (datum_of value.now) }
         ensures after { line_of self.new ≡ line_after (line_of self.old) (datum_of value.now) }
+        ensures gone { DropsFirst self.old self.new }
     {
         if self.is_lost {
             return None;
@@ -380,7 +415,7 @@ impl Line {
         let notice = notice_of(value);
         let is_push = is_push(value);
         let is_free = is_push || (self.is_listening() && is_notification(notice));
-        let Some(first) = self.due.front().copied() else {
+        let Some(first) = self.first() else {
             self.is_lost = !(is_free && !is_confirmation(notice));
             return None;
         };
@@ -396,13 +431,14 @@ impl Line {
 
     /// Records a confirmation of the first command that waits, which has this kind.
     fn confirm(&mut self, kind: CommandKind, notice: Notice)
-        ensures { (first : Due) (due : List Due) → (line_of self.old).due ≡ first ∷ due →
+        ensures after { (first : Due) (due : List Due) → (line_of self.old).due ≡ first ∷ due →
             first.kind ≡ kind →
             line_of self.new ≡ after_confirmation (line_of self.old) first due notice }
+        ensures gone { DropsFirst self.old self.new }
     {
         self.subscriptions = self.subscriptions.after_notice(notice);
         if has_all(kind, self.heard, self.subscriptions) {
-            let _ = self.due.pop_front();
+            let _ = self.pending.pop_front();
             self.heard = 0;
         } else {
             self.heard = self.heard.saturating_add(1);
@@ -416,6 +452,7 @@ impl Line {
             result ≡ number_of_reply first first.kind due notice }
         ensures after { (due : List Due) → (line_of self.old).due ≡ first ∷ due →
             line_of self.new ≡ after_reply (line_of self.old) first.kind due notice (datum_of value.now) }
+        ensures gone { DropsFirst self.old self.new }
     {
         if let CommandKind::Unpairing = first.kind {
             if is_reset(notice) {
@@ -430,10 +467,11 @@ impl Line {
     /// Records the reply to the first command that waits, which has this kind.
     fn answer(&mut self, kind: CommandKind, value: &Value)
         requires { kind ≢ CommandKind.Unpairing }
-        ensures { (notice : Notice) (first : Due) (due : List Due) → (line_of self.old).due ≡ first ∷ due →
+        ensures after { (notice : Notice) (first : Due) (due : List Due) → (line_of self.old).due ≡ first ∷ due →
             line_of self.new ≡ after_reply (line_of self.old) kind due notice (datum_of value.now) }
+        ensures gone { DropsFirst self.old self.new }
     {
-        let _ = self.due.pop_front();
+        let _ = self.pending.pop_front();
         self.heard = 0;
         if is_refusal(value) {
             return;
@@ -452,16 +490,17 @@ impl Line {
             result ≡ number_first due }
         ensures after { (first : Due) (due : List Due) → (line_of self.old).due ≡ first ∷ due →
             line_of self.new ≡ resumed (line_of self.old) due }
+        ensures gone { DropsFirst self.old self.new }
     {
-        let Some(reset) = self.due.get(1).copied() else {
+        let Some(reset) = self.pending.get(1).map(|reset| reset.due.number) else {
             self.is_lost = true;
             return None;
         };
-        let _ = self.due.pop_front();
-        let _ = self.due.pop_front();
+        let _ = self.pending.pop_front();
+        let _ = self.pending.pop_front();
         self.version = Version::Two;
         self.heard = 0;
         self.subscriptions = Subscriptions::none();
-        Some(reset.number)
+        Some(reset)
     }
 }

@@ -10,7 +10,6 @@ ghost use Rattle.resp_tap.specs.Watching.{HasTakenRequest, KeepsValue};
 use crate::moment::Moment;
 use crate::seen::{Seen, Step};
 use crate::tap::Tap;
-use crate::timed::TimedTap;
 use crate::watch::{Side, step};
 use bytes::BytesMut;
 use memchr::memchr;
@@ -21,7 +20,7 @@ use resp_value::laws::no_spelling_begins_another;
 use resp_value::limits::Limits;
 use std::alloc::{AllocError, Global};
 
-/// The most bytes of a line before its LF.
+/// The maximum number of bytes of a line before its LF.
 const LONGEST: usize = 65_536;
 
 /// The lines among the bytes of a client. A line that has not ended is held.
@@ -56,7 +55,8 @@ fn begins_line(piece: &[u8]) -> bool
 }
 
 impl Lines {
-    /// Returns the lines of a new connection, which are commands or are not. It allocates nothing.
+    /// Returns the lines of a new connection. `are_read` says whether lines are commands. It
+    /// allocates nothing.
     pub(crate) fn new(alloc: Global, are_read: bool) -> Lines
         ensures are_read { result.are_read ≡ are_read }
         ensures nothing_held { result.held.items ≡ [] }
@@ -110,18 +110,18 @@ impl Lines {
     /// [`step`](crate::watch::step) does. A line of the client is a command too, if lines are read.
     pub(crate) fn step(
         &mut self,
-        tap: &mut TimedTap,
+        tap: &mut Tap,
         side: Side,
         piece: &[u8],
         now: Option<Moment>,
     ) -> Lined
         ensures sees { SeesLined now side self.old self.new tap.old tap.new piece.now
             result.step.used result.step.seen result.is_line }
-        ensures other_side { KeepsOther side tap.old.tap tap.new.tap }
+        ensures other_side { KeepsOther side tap.old tap.new }
         ensures within_piece { result.step.used ≤ length piece.now }
         ensures uses_bytes { 0 < length piece.now → 0 < result.step.used }
     {
-        let is_line = side == Side::Client && self.have(&tap.tap, piece);
+        let is_line = side == Side::Client && self.have(tap, piece);
         let step = if is_line {
             self.read(tap, piece, now)
         } else {
@@ -130,36 +130,36 @@ impl Lines {
         Lined { step, is_line }
     }
 
-    /// Reads bytes of a line, up to its end or to that of the piece.
-    fn read(&mut self, tap: &mut TimedTap, piece: &[u8], now: Option<Moment>) -> Step
-        ensures told { HasTakenRequest tap.old.tap [] → (tap_state tap.old.tap).reads_commands ≡ true →
+    /// Reads bytes of a line, up to the end of the line or of the piece.
+    fn read(&mut self, tap: &mut Tap, piece: &[u8], now: Option<Moment>) -> Step
+        ensures told { HasTakenRequest tap.old [] → (tap_state tap.old).reads_commands ≡ true →
             TellsLine now self.old self.new tap.old tap.new piece.now result.used result.seen }
-        ensures same_value { KeepsValue tap.old.tap tap.new.tap }
+        ensures same_value { KeepsValue tap.old tap.new }
         ensures within_piece { result.used ≤ length piece.now }
         ensures uses_bytes { 0 < length piece.now → 0 < result.used }
     {
         let Some(end) = memchr(b'\n', piece) else {
             return match self.hold(piece) {
                 Ok(()) => Step::nothing(piece),
-                Err(rejected) => tap.tap.refuse_command(rejected.cause, rejected.at, piece),
+                Err(rejected) => tap.refuse_command(rejected.cause, rejected.at, piece),
             };
         };
         match self.hold(&piece[..end]) {
             Ok(()) => self.end(tap, piece, end + 1, now),
-            Err(rejected) => tap.tap.refuse_command(rejected.cause, rejected.at, piece),
+            Err(rejected) => tap.refuse_command(rejected.cause, rejected.at, piece),
         }
     }
 
     /// Reads the words of the line that is held, which ends after this many bytes of the piece.
-    fn end(&mut self, tap: &mut TimedTap, piece: &[u8], used: usize, now: Option<Moment>) -> Step
-        ensures told { HasTakenRequest tap.old.tap [] → (tap_state tap.old.tap).reads_commands ≡ true →
+    fn end(&mut self, tap: &mut Tap, piece: &[u8], used: usize, now: Option<Moment>) -> Step
+        ensures told { HasTakenRequest tap.old [] → (tap_state tap.old).reads_commands ≡ true →
             EndsSo now self.old.held.items tap.old tap.new result.seen }
         ensures nothing_held { self.new.held.items ≡ [] }
-        ensures same_value { KeepsValue tap.old.tap tap.new.tap }
+        ensures same_value { KeepsValue tap.old tap.new }
         ensures used { result.used ≡ used }
     {
         no_spelling_begins_another();
-        let text = text_of(self.alloc, &tap.tap.limits, self.held.as_slice());
+        let text = text_of(self.alloc, &tap.limits, self.held.as_slice());
         self.held = Vec::new(self.alloc);
         match text {
             Ok(None) => Step {
@@ -172,10 +172,7 @@ impl Lines {
             },
             Err(rejected) => Step {
                 used,
-                seen: tap
-                    .tap
-                    .refuse_command(rejected.cause, rejected.at, piece)
-                    .seen,
+                seen: tap.refuse_command(rejected.cause, rejected.at, piece).seen,
             },
         }
     }
@@ -220,7 +217,7 @@ fn rejected_by(error: LineError) -> Rejected
     }
 }
 
-/// Returns why the words of a line are no command.
+/// Returns why the words of a line are not a command.
 fn cause_of(error: EncodeError) -> Cause
     ensures { (result ≡ Cause.OutOfMemory) ⊎ (error ≢ EncodeError.OutOfMemory) }
 {

@@ -11,39 +11,39 @@ ghost use Rattle.resp_tap.specs.Texts.{heading, levels_of};
 ghost use Rattle.resp_value.specs.Data.{Datum};
 
 use crate::filter::Filter;
-use crate::moment::Moment;
+use crate::moment::{Moment, Utc};
 use crate::print::{TextOptions, secrets_for, write_heading, write_seen, write_words};
 use crate::seen::Seen;
 use crate::segment::{Segment, write_segments};
 use crate::stamp::Stamp;
+use resp_io::device::{DeviceFault, MemorySink, Sink};
 use resp_print::print_error::PrintError;
 use resp_session::words::Words;
-use resp_value::device::{DeviceFault, MemorySink, Sink};
 use std::alloc::{AllocError, Global};
 
-/// The most bytes that are kept of the words of a command.
+/// The maximum number of bytes that are kept of the words of a command.
 const SHOWN: usize = 1_024;
 
-/// The most commands of a connection for which bytes of the words are kept.
+/// The maximum number of commands of a connection for which bytes of the words are kept.
 const MOST_KEPT: usize = 1_024;
 
 /// The note of a command that waits for its reply.
 #[derive(Debug, Drop)]
 pub(crate) struct Note {
-    /// The time of day at which it arrived, in microseconds, if times are printed.
-    pub(crate) of_day: Option<u64>,
-    /// Whether it came as a line.
+    /// The time at which it arrived, if times are printed.
+    pub(crate) utc: Option<Utc>,
+    /// Whether the client sent it as a line.
     pub(crate) is_line: bool,
     /// Whether the filter lets it through by its words.
     pub(crate) is_chosen: bool,
-    /// Whether the text is that of all its words.
+    /// Whether the text has all its words.
     pub(crate) is_whole: bool,
     /// The first bytes of the text of its words, as they are printed.
     pub(crate) text: Vec<u8>,
 }
 
 impl Filter {
-    /// Returns the most bytes that are kept of a command behind this many others.
+    /// Returns the maximum number of bytes that are kept of a command behind this many others.
     fn room_for(&self, is_chosen: bool, behind: usize) -> usize
         ensures { result ≡ room_for self.now is_chosen behind }
     {
@@ -55,7 +55,8 @@ impl Filter {
     }
 }
 
-/// Returns the most bytes that are kept of the words of a command behind this many others.
+/// Returns the maximum number of bytes that are kept of the words of a command behind this many
+/// others.
 fn room_behind(behind: usize) -> usize
     ensures { result ≡ room_behind behind }
 {
@@ -86,7 +87,7 @@ pub(crate) fn note_of(
     let room = filter.room_for(is_chosen, behind);
     let (text, is_whole) = first_bytes(alloc, options, words, lengths, room)?;
     Ok(Note {
-        of_day: now.map(|now| now.of_day),
+        utc: now.map(|now| now.utc),
         is_line,
         is_chosen,
         is_whole,
@@ -94,7 +95,8 @@ pub(crate) fn note_of(
     })
 }
 
-/// Returns the first `room` bytes of the text of a command's words, and whether they are all.
+/// Returns the first `room` bytes of the text of a command's words, and whether this is the whole
+/// text.
 ///
 /// # Errors
 ///
@@ -147,9 +149,9 @@ pub(crate) fn is_chosen(filter: &Filter, note: Option<&Note>, seen: &Seen) -> bo
     }
 }
 
-/// Writes the lines of a result, if the filter lets it through. `is_line` says whether a command came
-/// as a line, and `is_chosen` whether the words of its command are printed. `note` is the note of the
-/// command that the next reply belongs to.
+/// Writes the lines of a result, if the filter lets it through. `is_line` says whether a command
+/// was sent as a line, and `is_chosen` whether the words of its command are printed. `note` is the
+/// note of the command that the next reply belongs to.
 ///
 /// # Errors
 ///
@@ -179,7 +181,8 @@ pub(crate) fn write_filtered<W: Sink>(
     }
 }
 
-/// Writes the lines of the command of a reply, if the reply has decided that it is printed.
+/// Writes the lines of the command that a reply belongs to, if the command is printed because of
+/// the reply.
 fn write_before<W: Sink>(
     filter: &Filter,
     client: u64,
@@ -197,7 +200,7 @@ fn write_before<W: Sink>(
     }
 }
 
-/// Writes the lines of a command, if its reply has decided that it is printed.
+/// Writes the lines of a command, if it is printed because of its reply.
 fn write_if_deferred<W: Sink>(
     filter: &Filter,
     client: u64,
@@ -214,10 +217,7 @@ fn write_if_deferred<W: Sink>(
     }
     match note {
         Some(note) => {
-            let stamp = note.of_day.map(|of_day| Stamp {
-                of_day,
-                waited: None,
-            });
+            let stamp = note.utc.map(|utc| Stamp { utc, waited: None });
             write_deferred(
                 client,
                 number,

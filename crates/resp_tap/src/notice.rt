@@ -1,4 +1,4 @@
-//! The values that are about subscriptions, and the reply to RESET.
+//! Values about subscriptions, and the reply to RESET.
 
 ghost use Rattle.std.specs.Prelude.{◌≡◌, length, map};
 ghost use Rattle.resp_value.specs.Data.{data_of_list};
@@ -38,8 +38,8 @@ fn is_message_word(word: &[u8]) -> bool
         || word == b"smessage".as_slice()
 }
 
-/// Returns the notice of members that begin with this word and are no confirmation: a message, or
-/// any other value.
+/// Returns the notice of members that begin with this word and are not a confirmation: a message,
+/// or any other value.
 fn message_by(word: &[u8]) -> Notice
     ensures { result ≡ message_by word.now }
 {
@@ -63,7 +63,7 @@ fn confirmation_by(verb: Option<Verb>, total: i64) -> Notice
     }
 }
 
-/// Returns the notice of three members, of which the first is this word.
+/// Returns the notice of three members that begin with this word.
 fn three_by(word: &[u8], last: &Value) -> Notice
     ensures { result ≡ three_by word.now (datum_of last.now) }
 {
@@ -73,7 +73,7 @@ fn three_by(word: &[u8], last: &Value) -> Notice
     }
 }
 
-/// Returns the notice of members, of which the first is this word.
+/// Returns the notice of members that begin with this word.
 fn members_by(word: &[u8], rest: &[Value]) -> Notice
     ensures { result ≡ members_by word.now (data_of_list (map datum_of rest.now)) }
 {

@@ -20,12 +20,12 @@ use crate::segment::{Segment, write_segments};
 use crate::shown_part::ShownPart;
 use crate::stamp::Stamp;
 use crate::tap::Tap;
-use resp_cut::CutValue;
+use resp_io::device::{DeviceFault, Sink};
 use resp_print::print_error::PrintError;
 use resp_print::text::{is_cut, shown_part, write_text};
 use resp_print::value::{write_cut_push_value, write_cut_value, write_push_value, write_value};
 use resp_session::words::Words;
-use resp_value::device::{DeviceFault, Sink};
+use resp_value::CutValue;
 use resp_value::value::Members;
 
 /// How the traffic of a client is printed.
@@ -45,10 +45,10 @@ pub struct TextOptions {
     pub client: u64,
     /// Whether passwords and other secret words of commands are printed.
     pub shows_passwords: bool,
-    /// How many bytes of a word or of a text are printed. `..` and the number of its bytes follow one
-    /// that has more. The results are those of a tap that shows as many.
+    /// How many bytes of a word or of a text are printed. A longer one is followed by `..` and the
+    /// number of its bytes. The results have to be those of a tap that shows as many bytes.
     pub shown: ShownPart,
-    /// How many bytes of each word of a command are kept, apart from one more.
+    /// How many bytes of each word of a command are kept, not counting one additional byte.
     pub kept: ShownPart,
 }
 
@@ -68,9 +68,9 @@ impl Tap {
     }
 }
 
-/// Writes the lines of `seen`. Replies and pushes have the lines of `resp loop`, if all their bytes are
-/// printed. `is_line` says whether a command came as a line. With a stamp, the first line ends with the
-/// time.
+/// Writes the lines of `seen`. Replies and pushes are printed as `resp loop` prints them, if all
+/// their bytes are printed. `is_line` says whether a command was sent as a line. With a stamp, the
+/// first line ends with the time.
 ///
 /// # Errors
 ///
@@ -163,7 +163,7 @@ fn write_reply<W: Sink>(
     }
 }
 
-/// Writes the lines of a value of which one byte more of each text was kept than is shown.
+/// Writes the lines of a value. One byte more of each of its texts was kept than is shown.
 fn write_kept<W: Sink>(kept: &CutValue, shown: ShownPart, writer: &mut W) -> Result<(), PrintError>
     ensures { (whole : Datum) → IsKeptOf shown.most whole kept.now →
         Prints (W.written writer.old) (W.written writer.new) (W.failures writer.old)
@@ -197,7 +197,7 @@ fn write_push<W: Sink>(
     }
 }
 
-/// Writes the lines of a push of which one byte more of each text was kept than is shown.
+/// Writes the lines of a push. One byte more of each of its texts was kept than is shown.
 fn write_kept_push<W: Sink>(
     members: &Members,
     lengths: &[u64],
@@ -242,7 +242,7 @@ fn line_words(is_line: bool) -> &'static [u8]
     if is_line { b" inline" } else { b"" }
 }
 
-/// Writes the number of a command, and whether it came as a line.
+/// Writes the number of a command, and whether it was sent as a line.
 pub(crate) fn write_heading<W: Sink>(
     client: u64,
     number: u64,
@@ -276,7 +276,7 @@ fn write_command<W: Sink>(
     write_words_line(options, words, lengths, writer)
 }
 
-/// Returns the secret words of a command that are not printed, by the kept part of its words.
+/// Returns which words of a command are secret and not printed, given the kept part of its words.
 pub(crate) fn secrets_for(options: TextOptions, words: &Words) -> Secrets
     ensures { (whole : List (List ℕ)) (lengths : List ℕ) →
         AreKeptOf options.shown.most options.kept.most whole words.now lengths →
@@ -346,8 +346,8 @@ pub fn write_client_line<W: Sink>(
     write_remark(client, what, b"", stamp, writer)
 }
 
-/// Writes a line about a client: these bytes after its number, and a text, such as
-/// `client 1 connected from 127.0.0.1:50000`.
+/// Writes a line about a client: its number, these bytes and a text, such as `client 1 connected
+/// from 127.0.0.1:50000`.
 ///
 /// # Errors
 ///
@@ -391,7 +391,7 @@ fn write_words_line<W: Sink>(
     write_text(writer, b"\n")
 }
 
-/// Writes words in quotes, each after a space, without those that are secret, from their kept part.
+/// Writes the kept parts of words in quotes, each after a space. Secret words are redacted.
 pub(crate) fn write_words<W: Sink>(
     options: TextOptions,
     words: &Words,
@@ -422,9 +422,9 @@ pub(crate) fn write_words<W: Sink>(
     Ok(())
 }
 
-/// Returns the number of bytes of a word by its kept part, and the lengths of the words after it. At
-/// most `kept` bytes of a word are kept. The first of the lengths is that of this word, if the word
-/// has more bytes.
+/// Returns the number of bytes of a word, given its kept part, and the lengths that remain for the
+/// words after it. At most `kept` bytes of a word are kept. If the word has more bytes, the first
+/// of `lengths` is its length.
 fn length_of<'a>(word: &[u8], kept: Option<usize>, lengths: &'a [u64]) -> (u64, &'a [u64])
     ensures { (whole later : List ℕ) → word.now ≡ word_within kept whole →
         lengths.now ≡ length_within kept (length whole) ++ later →
@@ -478,8 +478,8 @@ fn write_word<W: Sink>(
     )
 }
 
-/// Returns the quote after a word of this many bytes, and two dots and their number if not all are
-/// printed.
+/// Returns the quote after a word of this many bytes. If not all of them are printed, two dots and
+/// the number of bytes follow the quote.
 fn word_end(count: u64, most: Option<usize>) -> Segment<'static>
     ensures { segment_text result ≡ word_end most count }
 {

@@ -1,27 +1,27 @@
 //! A bounded buffer for text that waits for the terminal.
 
 ghost use Rattle.std.specs.Prelude.{◌≡◌, ◌+◌, ◌≤◌, length, None, IfOk, OnErr, OnOk};
-ghost use Rattle.resp_value.specs.Devices.{Writes, count_after, failures_after, write_fails};
+ghost use Rattle.resp_io.specs.Devices.{Writes, count_after, failures_after, write_fails};
 ghost use Rattle.resp_tap.specs.Screens.{left_out_end, left_out_front, notice_room};
 
 use bytes::BytesMut;
 use itoa::Buffer;
-use resp_value::device::{DeviceFault, Sink};
+use resp_io::device::{DeviceFault, Sink};
 use std::alloc::{AllocError, Global};
 use std::marker::Model;
 
 /// The free bytes that the line about omitted bytes needs.
 const ROOM: usize = 64;
 
-/// The free bytes with which a line of JSON is begun.
+/// The number of free bytes that are needed to begin a line of JSON.
 const LINE: usize = 8_192;
 
 /// Holds printed text until it is shown, up to a maximum number of bytes. Text that arrives while
 /// the screen is full is omitted and counted. When there is room again, a line says how many bytes
 /// were omitted. If the text before it was cut inside a line, that line is ended first.
 ///
-/// A line of JSON is begun only if 8,192 more bytes may be held, so a line that is no longer than
-/// that is not cut, unless an allocation fails.
+/// A line of JSON is begun only if there is room for 8,192 more bytes, so a line of at most that
+/// length is not cut unless an allocation fails.
 ///
 /// A write to a screen never fails, so printing never delays forwarding.
 #[derive(Drop)]
@@ -70,8 +70,8 @@ impl Screen {
         }
     }
 
-    /// Returns an empty screen whose lines are JSON, or are not. The line about omitted bytes is then
-    /// JSON too.
+    /// Returns the empty screen, after setting whether its lines are JSON. If they are, the line
+    /// about omitted bytes is JSON too.
     pub fn with_json(mut self, as_json: bool) -> Screen
         ensures { result ≡ record self { as_json = as_json } }
     {
@@ -102,7 +102,7 @@ impl Screen {
         self.text.advance(count);
     }
 
-    /// Returns whether this many free bytes suffice to write on.
+    /// Returns whether this many free bytes are enough to append text.
     fn has_room_for_line(&self, free: usize) -> bool
         ensures { result ≡ has_room_for_line self.now free }
     {
@@ -110,8 +110,8 @@ impl Screen {
     }
 
     /// Appends as much of `text` as there is room for, and counts the rest. Once a byte was
-    /// omitted, nothing is appended until the line about omitted bytes is written.
-    /// A line of JSON is begun only if 8,192 more bytes may be held.
+    /// omitted, nothing is appended until the line about omitted bytes is written. A line of JSON
+    /// is begun only if there is room for 8,192 more bytes.
     fn keep(&mut self, text: &[u8])
         ensures kept { KeepsOrCounts self.old self.new text.now }
         ensures same_calls { self.new.calls ≡ self.old.calls }
@@ -134,8 +134,8 @@ impl Screen {
         }
     }
 
-    /// Appends a line with the number of omitted bytes, if bytes were omitted and at least 64 more
-    /// bytes may be held, or 8,256 if the lines are JSON. Call this between two texts.
+    /// Appends a line with the number of omitted bytes, if bytes were omitted and there is room for
+    /// at least 64 more bytes, or 8,256 if the lines are JSON. Call this between two texts.
     ///
     /// # Errors
     ///
@@ -167,7 +167,7 @@ impl Screen {
     }
 }
 
-/// Returns the free bytes with which the line about omitted bytes is appended.
+/// Returns the number of free bytes that are needed to append the line about omitted bytes.
 fn notice_room(as_json: bool) -> usize
     ensures room { result ≡ notice_room as_json }
     ensures enough { 64 ≤ result }

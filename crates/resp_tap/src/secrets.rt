@@ -21,7 +21,7 @@ pub enum Secrets {
     OfHello,
     /// The word after AUTH and the two words after AUTH2 are secret.
     OfMigrate,
-    /// The word after the name of a secret setting is secret: those of CONFIG SET, SENTINEL SET and
+    /// The word after the name of a secret setting is secret, in CONFIG SET, SENTINEL SET and
     /// SENTINEL CONFIG SET.
     OfSettings,
 }

@@ -1,7 +1,7 @@
 //! The commands, replies and pushes of a connection.
 
-use resp_cut::CutValue;
 use resp_session::words::Words;
+use resp_value::CutValue;
 use resp_value::cause::Cause;
 use resp_value::value::Members;
 
@@ -38,7 +38,7 @@ pub enum Seen {
         number: u64,
         value: CutValue,
     },
-    /// The server sent a push, which is no reply to a command. These are its members, with the
+    /// The server sent a push, which is not a reply to a command. These are its members, with the
     /// lengths of the longer texts as in a [`CutValue`].
     Push {
         members: Members,
@@ -47,12 +47,12 @@ pub enum Seen {
     /// The server sent a value that is paired with no command: after a command that does not have
     /// exactly one reply, after an error of the client, or after a value that no command asked for.
     Value(CutValue),
-    /// The client sent a value that is not a command. The rest of its bytes is not read.
+    /// The client sent a value that is not a command. The rest of its bytes are not read.
     NotCommand {
         number: u64,
     },
-    /// A byte is not allowed at its place, or memory ran out. The rest of the bytes of this side is
-    /// not read.
+    /// A byte is not allowed at its place, or memory ran out. The rest of the bytes of this side
+    /// are not read.
     Refused {
         cause: Cause,
         /// The index of the byte, from 0 at the first byte of the command, reply or value that

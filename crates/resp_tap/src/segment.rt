@@ -5,9 +5,9 @@ ghost use Rattle.resp_tap.specs.Segments.{segment_text, segments_text};
 
 use crate::json_line::{write_json_end, write_member};
 use crate::stamp::{Stamp, write_ending};
+use resp_io::device::{DeviceFault, Sink};
 use resp_json::text::write_json_text;
 use resp_print::text::{write_number, write_quoted, write_text};
-use resp_value::device::{DeviceFault, Sink};
 
 /// A segment of a line.
 #[derive(Clone, Copy)]
@@ -16,9 +16,9 @@ pub(crate) enum Segment<'a> {
     Text(&'a [u8]),
     /// These bytes, and a number.
     Number(&'a [u8], u64),
-    /// These bytes, if so.
+    /// These bytes if the flag is true, and otherwise nothing.
     TextIf(bool, &'a [u8]),
-    /// These bytes, and a number, if it is known.
+    /// These bytes and a number, or nothing if the number is not known.
     NumberIf(&'a [u8], Option<u64>),
     /// A text as it is printed inside quotes.
     Quoted(&'a [u8]),
@@ -28,7 +28,7 @@ pub(crate) enum Segment<'a> {
     Json(&'a [u8]),
     /// A member of an object after these bytes, or nothing if the text is empty.
     Member(&'a [u8], &'a [u8]),
-    /// The end of a line of JSON, with this time of day.
+    /// The end of a line of JSON, with this time in microseconds since 1970.
     JsonEnd(u64),
 }
 
@@ -61,6 +61,6 @@ fn write_segment<W: Sink>(segment: Segment, writer: &mut W) -> Result<(), Device
         Segment::Ending(stamp) => write_ending(stamp, writer),
         Segment::Json(text) => write_json_text(writer, text),
         Segment::Member(front, text) => write_member(front, text, writer),
-        Segment::JsonEnd(of_day) => write_json_end(of_day, writer),
+        Segment::JsonEnd(utc) => write_json_end(utc, writer),
     }
 }

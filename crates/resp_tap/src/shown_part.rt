@@ -3,10 +3,10 @@
 ghost use Rattle.std.specs.Prelude.{◌≡◌, ◌≤◌, None, Some, max};
 ghost use Rattle.std.specs.Option.{ForSome};
 
-/// The fewest bytes that may be shown.
+/// The minimum number of bytes of a text that are shown.
 const LEAST: usize = 12;
 
-/// The fewest bytes that are kept of a word of a command.
+/// The minimum number of bytes that are kept of a word of a command.
 const LEAST_OF_WORD: usize = 64;
 
 /// How many bytes of each text are shown: all of them, or the first ones.
@@ -15,7 +15,7 @@ const LEAST_OF_WORD: usize = 64;
 /// are paired with commands. The longest of them is `punsubscribe`.
 #[derive(Clone, Copy, Debug, PartialEq, Eq)]
 pub struct ShownPart {
-    /// The most bytes of each text that are shown, or `None` if all are.
+    /// The maximum number of bytes of each text that are shown, or `None` if all are.
     pub most: Option<usize>,
     pub ghost enough: { ForSome most (λ most. 12 ≤ most) },
 }
@@ -50,7 +50,7 @@ impl ShownPart {
         }
     }
 
-    /// Returns the most bytes of a text that are shown.
+    /// Returns the maximum number of bytes of a text that are shown.
     pub(crate) fn bytes(self) -> usize
         ensures { result ≡ kept_bytes self.most }
     {

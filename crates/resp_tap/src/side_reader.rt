@@ -29,7 +29,7 @@ pub(crate) struct SideReader {
     pub(crate) is_reading: bool,
     pub ghost same_rules: { ForSome decoder (λ decoder. rules_of decoder.value ≡ rules_under version limits) },
     pub ghost same_shown: { ForSome decoder (λ decoder. shown_of decoder.value ≡ kept_bytes shown.most) },
-    /// Until the first error, some bytes were read of the value that is incomplete.
+    /// Until the first error, the reader has read some bytes of the incomplete value.
     pub ghost reading: { is_reading ≡ true → ∥ ((front : List ℕ) ×
         MatchOption decoder (front ≡ []) (λ decoder. HasTaken decoder.value front)) ∥₁ },
 }
@@ -128,7 +128,7 @@ impl SideReader {
         self.is_reading = false;
     }
 
-    /// Returns the number of bytes that were read of the value that is incomplete.
+    /// Returns the number of bytes that were read of the incomplete value.
     pub(crate) fn taken(&self) -> u64
         ensures { WhereSent self.now (λ front. result ≡ length front) }
     {

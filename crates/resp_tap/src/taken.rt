@@ -41,7 +41,7 @@ impl Taken {
     }
 }
 
-/// Returns how many bytes of an incomplete command or value there are after a result: `bytes` if
+/// Returns how many bytes of an incomplete command or value are left after a result: `bytes` if
 /// nothing was complete, and otherwise 0.
 fn left_of(bytes: u64, seen: &Seen) -> u64
     ensures { result ≡ left_of seen.now bytes }

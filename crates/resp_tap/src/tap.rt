@@ -1,6 +1,6 @@
-//! The tap: reads the traffic of one connection.
+//! The tap: reads the traffic of one connection, and knows how long each command has waited.
 
-ghost use Rattle.std.specs.Prelude.{◌≡◌, ◌+◌, ◌<◌, ◌≤◌, ◌^◌, ◌++◌, ℕ, List, None, true, false, [], length, take, IfErr, OnOk, OnErr};
+ghost use Rattle.std.specs.Prelude.{◌≡◌, ◌+◌, ◌<◌, ◌≤◌, ◌^◌, ◌++◌, ℕ, List, Option, None, true, false, [], length, take, IfErr, OnOk, OnErr};
 ghost use Rattle.resp_value.specs.Rules.{rules_under};
 ghost use Rattle.resp_value.specs.declared.version.Version.TheVariants.{Two};
 ghost use Rattle.resp_tap.specs.Parts.{IsEnough};
@@ -9,21 +9,23 @@ ghost use Rattle.resp_tap.specs.declared.seen.Place.TheVariants as place;
 
 use crate::kind::command_kind;
 use crate::line::Line;
+use crate::moment::Moment;
 use crate::seen::{Place, Seen, Step};
 use crate::shown_part::ShownPart;
 use crate::side_reader::SideReader;
-use resp_cut::CutValue;
-use resp_session::words::{Asked, Words, asked_by};
+use crate::waiting::Waiting;
+use resp_session::words::{Requested, Words, asked_by};
+use resp_value::CutValue;
 use resp_value::cause::Cause;
 use resp_value::limits::Limits;
 use resp_value::value::Value;
 use resp_value::version::Version;
 use std::alloc::Global;
 
-/// The most commands that may wait for their replies.
+/// The maximum number of commands that may wait for their replies.
 const MOST_WAITING: u64 = 1_048_576;
 
-/// The most commands of a connection.
+/// The maximum number of commands of a connection.
 const MOST_COMMANDS: u64 = 9_223_372_036_854_775_808;
 
 /// Reads the traffic of one proxied connection. It receives the bytes that both sides send, in
@@ -34,20 +36,21 @@ const MOST_COMMANDS: u64 = 9_223_372_036_854_775_808;
 /// changes when the reply to a HELLO that asks for another version arrives and is not an error, and
 /// it is 2 after the reply to RESET.
 ///
-/// A command that subscribes or unsubscribes is answered by a confirmation for each channel, or by an
-/// error. The confirmations are pushes in version 3, and arrays in version 2. In version 2, messages
-/// to channels are arrays too, and belong to no command. REPLCONF with ACK or GETACK has no reply.
+/// The server replies to a command that subscribes or unsubscribes with a confirmation for each
+/// channel, or with an error. The confirmations are pushes in version 3, and arrays in version 2.
+/// In version 2, messages to channels are arrays too, and belong to no command. REPLCONF with ACK
+/// or GETACK has no reply.
 ///
 /// After MONITOR, SYNC, PSYNC, CLIENT REPLY and SCRIPT DEBUG, and after the replies to the commands
-/// before it, values are read in version 3, which contains version 2, and belong to no command, until
-/// the reply to the next RESET. The same holds without an end from a value on that no command asked
-/// for.
+/// before it, values are read in version 3, which contains version 2, and belong to no command,
+/// until the reply to the next RESET. After a value that no command asked for, the same is true
+/// until the connection ends.
 ///
 /// After an error in the bytes of a side, nothing more of that side is read. After an error of the
-/// client, the replies to the commands before it are still paired. A tap holds at most one incomplete
-/// value of each side, and 32 bytes for each command that waits, at most 1,048,576 of them. It holds
-/// one byte more of each text of the server's value than is shown, whatever the text's length, and of
-/// each word of a command as many bytes, or 65 if that is more.
+/// client, the replies to the commands before it are still paired. A tap holds at most one
+/// incomplete value of each side, and 40 bytes for each command that waits, at most 1,048,576 of
+/// them. It holds one byte more of each text of the server's value than is shown, regardless of the
+/// text's length. It holds as many bytes of each word of a command, or 65 if that is more.
 ///
 /// # Examples
 ///
@@ -55,7 +58,7 @@ const MOST_COMMANDS: u64 = 9_223_372_036_854_775_808;
 ///
 /// ```rust
 /// let mut tap = Tap::new(alloc, &Limits::standard(), ShownPart::first(32));
-/// let step = tap.from_client(b"*1\r\n$4\r\nPING\r\n");
+/// let step = tap.from_client(b"*1\r\n$4\r\nPING\r\n", None);
 /// if let Seen::Command { number, words, .. } = &step.seen {
 ///     println!(rt; "command {number}: {}", words.word(0).escape_ascii())?;
 /// }
@@ -75,8 +78,8 @@ pub struct Tap {
     pub(crate) commands: u64,
     /// Reads the bytes of the server.
     pub(crate) values: SideReader,
-    /// The commands that wait.
-    pub(crate) line: Line,
+    /// The commands that wait, each with its time on the steady clock, if that is known.
+    pub(crate) line: Line<Option<u64>>,
     pub(crate) limits: Limits,
     ghost in_range: { commands ≤ 2 ^ 63 },
     ghost request_rules: { side_rules requests ≡ rules_under Two limits },
@@ -121,19 +124,23 @@ impl Tap {
     ghost use Rattle.resp_value.specs.Spellings.{IsSpelling};
     ghost use Rattle.resp_tap.specs.Kinds.{command_kind};
     ghost use Rattle.resp_tap.specs.Lines.{number_for};
+    ghost use Rattle.resp_tap.specs.LinesOf.{DropsFirst, MayAdd};
+    ghost use Rattle.resp_tap.specs.declared.moment.Moment.{Moment};
     ghost use Rattle.resp_tap.specs.Parts.{IsKeptOf, kept_for};
     ghost use Rattle.resp_value.specs.Data.{Datum};
     ghost use Rattle.resp_tap.specs.Taps.{at_front, new_tap, tap_state, with_command, with_refused_command, with_refused_reply, with_value};
-    ghost use Rattle.resp_tap.specs.Watching.{HasTakenRequest, HasTakenSomeRequest, HasTakenSomeValue, HasTakenValue, IsLeftOut, KeepsRequest, KeepsValue, LacksTime, SeesRequest, SeesValue, WhereAnswered, WhereRequested, place_of_value, request_rules};
+    ghost use Rattle.resp_tap.specs.Times.{AreWaiting, IsAskedIn, KeepsTimes, times_of, waits_in};
+    ghost use Rattle.resp_tap.specs.Watching.{HasTakenRequest, HasTakenSomeRequest, HasTakenSomeValue, HasTakenValue, IsLeftOut, KeepsRequest, KeepsValue, SeesRequest, SeesValue, WhereAnswered, WhereRequested, place_of_value, request_rules};
 
     /// Returns a tap of a new connection, which is read within these limits. It keeps one byte
-    /// more of each text of the server than is shown, and of each word of the client as many bytes or
-    /// 65. The call allocates nothing.
+    /// more of each text of the server than is shown, and as many bytes of each word of the client,
+    /// but at least 65. The call allocates nothing.
     pub fn new(alloc: Global, limits: &Limits, shown: ShownPart) -> Tap
         ensures nothing_passed { tap_state result ≡
             new_tap limits.now shown.most (kept_for 0 shown.most) }
         ensures nothing_requested { HasTakenRequest result [] }
         ensures nothing_answered { HasTakenValue result [] }
+        ensures no_times { times_of result ≡ [] }
     {
         Tap::keeping(alloc, limits, shown, shown.of_words(0))
     }
@@ -145,6 +152,7 @@ impl Tap {
         ensures nothing_passed { tap_state result ≡ new_tap limits.now shown.most kept.most }
         ensures nothing_requested { HasTakenRequest result [] }
         ensures nothing_answered { HasTakenValue result [] }
+        ensures no_times { times_of result ≡ [] }
     {
         Tap {
             requests: SideReader::new(alloc, limits, kept),
@@ -155,7 +163,27 @@ impl Tap {
         }
     }
 
-    /// Reads bytes that the client sent, until a command is complete or the piece ends. Call it
+    /// Returns the time, on the steady clock, of the command that the next reply belongs to. It is
+    /// known if a moment was given with the last bytes of that command.
+    pub fn asked(&self) -> Option<u64>
+        ensures { IsAskedIn self.now result }
+    {
+        self.line.kept_at(self.line.asked_at()).copied().flatten()
+    }
+
+    /// Returns the commands that wait for their replies.
+    pub(crate) fn awaited(&self) -> Waiting
+        ensures { AreWaiting self.now result }
+    {
+        Waiting {
+            count: self.line.waiting(),
+            next: self.line.asked_at(),
+            asked: self.asked(),
+        }
+    }
+
+    /// Reads bytes that the client sent, which arrived at this moment, until a command is complete or
+    /// the piece ends. The time of a command is kept while it waits, if a moment is given. Call it
     /// again with the rest of the piece.
     ///
     /// # Errors
@@ -165,10 +193,12 @@ impl Tap {
     /// `TooMany` for the command after 9,223,372,036,854,775,808 commands or while 1,048,576
     /// commands wait, and with `OutOfMemory` if an allocation fails. After an error the bytes of
     /// the client are skipped.
-    pub fn from_client(&mut self, piece: &[u8]) -> Step
+    #[tactic(auto, using(crate::proofs::TimeLemmas::times_added, crate::proofs::TimeLemmas::times_stay))]
+    pub fn from_client(&mut self, piece: &[u8], now: Option<Moment>) -> Step
         ensures seen { (tap_state self.old).reads_commands ≡ true →
             WhereRequested self.old (λ front.
             SeesRequest (tap_state self.old) self.new front piece.now result.used result.seen) }
+        ensures times { KeepsTimes now self.old self.new }
         ensures some { HasTakenSomeRequest self.old }
         ensures same_value { KeepsValue self.old self.new }
         ensures within_piece { result.used ≤ length piece.now }
@@ -191,24 +221,15 @@ impl Tap {
             },
             Some(kept) => Step {
                 used,
-                seen: self.command_of(kept),
+                seen: self.command_of(kept, now.map(|now| now.steady)),
             },
         }
-    }
-
-    /// Reports that memory for the time of the next command ran out, at its first byte.
-    pub(crate) fn lack_memory(&mut self, piece: &[u8]) -> Step
-        ensures seen { LacksTime (tap_state self.old) self.new piece.now result.used result.seen }
-        ensures same_value { KeepsValue self.old self.new }
-        ensures whole_piece { result.used ≡ length piece.now }
-        ensures refused { tap_state self.new ≡ with_refused_command (tap_state self.old) }
-    {
-        self.refuse_command(Cause::OutOfMemory, 0, piece)
     }
 
     /// Stops reading the client's bytes. The replies to the commands before are still paired.
     fn stop_commands(&mut self)
         ensures after { tap_state self.new ≡ with_refused_command (tap_state self.old) }
+        ensures same_line { self.new.line ≡ self.old.line }
         ensures same_value { KeepsValue self.old self.new }
     {
         self.requests.stop();
@@ -217,6 +238,7 @@ impl Tap {
     /// Stops reading the client's bytes, and reports an error in the next command.
     pub(crate) fn refuse_command(&mut self, cause: Cause, at: u64, piece: &[u8]) -> Step
         ensures after { tap_state self.new ≡ with_refused_command (tap_state self.old) }
+        ensures same_line { self.new.line ≡ self.old.line }
         ensures step { result ≡ record {
           used = length piece.now;
           seen = Seen.Refused cause at (place.Command ((tap_state self.old).commands + 1));
@@ -234,6 +256,7 @@ impl Tap {
     /// Stops reading the server's bytes, and reports an error.
     fn refuse_reply(&mut self, cause: Cause, at: u64, piece: &[u8]) -> Step
         ensures after { tap_state self.new ≡ with_refused_reply (tap_state self.old) }
+        ensures same_line { self.new.line ≡ self.old.line }
         ensures same_request { self.new.requests ≡ self.old.requests }
         ensures step { result ≡ record {
           used = length piece.now;
@@ -248,19 +271,20 @@ impl Tap {
         }
     }
 
-    /// Returns what a value of the client is, by its kept part: a command, a value that a server
-    /// ignores, or a value that is not a command.
-    fn command_of(&mut self, kept: CutValue) -> Seen
+    /// Returns whether a value of the client is a command, a value that a server ignores, or a
+    /// value that is not a command. Its kept part decides that. A command has this time.
+    fn command_of(&mut self, kept: CutValue, sent: Option<u64>) -> Seen
         ensures seen { HasTakenRequest self.old [] → (whole : Datum) (front piece : List ℕ)
             (used : ℕ) → IsSpelling (request_rules (tap_state self.old).limits) whole
             (front ++ take used piece) → IsKeptOf (tap_state self.old).kept whole kept →
             SeesRequest (tap_state self.old) self.new front piece used result }
+        ensures times { MayAdd sent self.old.line self.new.line }
         ensures same_value { KeepsValue self.old self.new }
     {
         let number = self.commands.saturating_add(1);
         let CutValue { value, lengths } = kept;
         match asked_by(value) {
-            Asked::Command(words) => match self.take_command(&words) {
+            Requested::Command(words) => match self.take_command(&words, sent) {
                 Ok(()) => Seen::Command {
                     number,
                     words,
@@ -275,21 +299,22 @@ impl Tap {
                     }
                 }
             },
-            Asked::Nothing => Seen::Passed,
-            Asked::NoCommand => {
+            Requested::Nothing => Seen::Passed,
+            Requested::NoCommand => {
                 self.stop_commands();
                 Seen::NotCommand { number }
             }
         }
     }
 
-    /// Counts a command by the kept part of its words, and records it if it waits.
-    fn take_command(&mut self, words: &Words) -> Result<(), Cause>
+    /// Counts a command with this time, given the kept part of its words, and records it if it waits.
+    fn take_command(&mut self, words: &Words, sent: Option<u64>) -> Result<(), Cause>
         requires { 0 < length words.now }
         ensures counted { OnOk result (tap_state self.new ≡
             with_command (command_kind words.now) (tap_state self.old)) }
         ensures refusal { IfErr result (IsLeftOut (tap_state self.old) words.now) }
         ensures unchanged { OnErr result (tap_state self.new ≡ tap_state self.old) }
+        ensures times { MayAdd sent self.old.line self.new.line }
         ensures same_request { self.new.requests ≡ self.old.requests }
         ensures same_value { KeepsValue self.old self.new }
     {
@@ -297,25 +322,27 @@ impl Tap {
             return Err(Cause::TooMany);
         }
         let number = self.commands + 1;
-        if self.line.send(number, command_kind(words)).is_err() {
+        if self.line.send(number, command_kind(words), sent).is_err() {
             return Err(Cause::OutOfMemory);
         }
         self.commands = number;
         Ok(())
     }
 
-    /// Reads bytes that the server sent, until a value is complete or the piece ends. Call it again
-    /// with the rest of the piece.
+    /// Reads bytes that the server sent, until a value is complete or the piece ends. The time of a
+    /// command is dropped when it no longer waits. Call it again with the rest of the piece.
     ///
     /// # Errors
     ///
     /// Reports [`Seen::Refused`] with the error of a [`Decoder`] in the version in which the value is
     /// read, and with `OutOfMemory` if an allocation fails. After an error the bytes of the server are
     /// skipped.
+    #[tactic(auto, using(crate::proofs::TimeLemmas::times_dropped, crate::proofs::TimeLemmas::times_stay))]
     pub fn from_server(&mut self, piece: &[u8]) -> Step
         ensures seen { (tap_state self.old).reads_replies ≡ true → WhereAnswered self.old (λ front.
             SeesValue (at_front front piece.now (tap_state self.old)) self.new front piece.now
             result.used result.seen) }
+        ensures times { (now : Option Moment) → KeepsTimes now self.old self.new }
         ensures some { HasTakenSomeValue self.old }
         ensures same_request { KeepsRequest self.old self.new }
         ensures within_piece { result.used ≤ length piece.now }
@@ -334,6 +361,7 @@ impl Tap {
     fn begin(&mut self, piece: &[u8])
         ensures begun { WhereAnswered self.old (λ front. HasTakenValue self.new front ×
             (tap_state self.new ≡ at_front front piece.now (tap_state self.old))) }
+        ensures same_pending { self.new.line.pending ≡ self.old.line.pending }
         ensures same_reading { self.new.values.is_reading ≡ self.old.values.is_reading }
         ensures same_request { self.new.requests ≡ self.old.requests }
     {
@@ -348,6 +376,7 @@ impl Tap {
         requires { self.old.values.is_reading ≡ true }
         ensures seen { WhereAnswered self.old (λ front. SeesValue (tap_state self.old) self.new
             front piece.now result.used result.seen) }
+        ensures gone { DropsFirst self.old.line self.new.line }
         ensures same_request { self.new.requests ≡ self.old.requests }
         ensures within_piece { result.used ≤ length piece.now }
         ensures uses_bytes { 0 < length piece.now → 0 < result.used }
@@ -376,6 +405,7 @@ impl Tap {
             result }
         ensures after { tap_state self.new ≡
             with_value (datum_of kept.value) (tap_state self.old) }
+        ensures gone { DropsFirst self.old.line self.new.line }
         ensures same_values { self.new.values ≡ self.old.values }
         ensures same_request { self.new.requests ≡ self.old.requests }
     {

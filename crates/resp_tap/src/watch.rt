@@ -5,13 +5,14 @@ ghost use Rattle.resp_tap.specs.Times.{stamp_of, waited_of};
 ghost use Rattle.resp_tap.specs.Watches.{KeepsOther, SeesFirst, Watches, WatchesAll};
 ghost use Rattle.resp_tap.specs.declared.seen.Seen.{Seen};
 
+use crate::each_result::{Given, WatchSome, watch_each};
 use crate::moment::Moment;
 use crate::print::{Printing, write_seen};
 use crate::seen::{Seen, Step};
 use crate::stamp::Stamp;
-use crate::timed::TimedTap;
+use crate::tap::Tap;
+use resp_io::device::Sink;
 use resp_print::print_error::PrintError;
-use resp_value::device::Sink;
 
 /// The side of a connection that sends bytes.
 #[derive(Clone, Copy, Debug, PartialEq, Eq)]
@@ -30,19 +31,19 @@ pub struct Watched {
 }
 
 /// Reads bytes that one side sent, until there is a result or the piece ends.
-pub(crate) fn step(tap: &mut TimedTap, side: Side, piece: &[u8], now: Option<Moment>) -> Step
+pub(crate) fn step(tap: &mut Tap, side: Side, piece: &[u8], now: Option<Moment>) -> Step
     ensures sees { SeesFirst side now tap.old tap.new piece.now result.used result.seen }
-    ensures other_side { KeepsOther side tap.old.tap tap.new.tap }
+    ensures other_side { KeepsOther side tap.old tap.new }
     ensures within_piece { result.used ≤ length piece.now }
     ensures uses_bytes { 0 < length piece.now → 0 < result.used }
 {
     match side {
         Side::Client => tap.from_client(piece, now),
-        Side::Server => tap.from_server(piece, now),
+        Side::Server => tap.from_server(piece),
     }
 }
 
-/// Returns how long the command waited that was sent at `asked`, if `seen` is its reply.
+/// Returns how long the command sent at `asked` waited, if `seen` is its reply.
 pub(crate) fn waited_of(now: Moment, asked: Option<u64>, seen: &Seen) -> Option<u64>
     ensures { result ≡ waited_of now asked seen.now }
 {
@@ -52,19 +53,19 @@ pub(crate) fn waited_of(now: Moment, asked: Option<u64>, seen: &Seen) -> Option<
     }
 }
 
-/// Returns the stamp of what was seen, if a moment is given.
+/// Returns the stamp of a result, if a moment is given.
 pub(crate) fn stamp_of(now: Option<Moment>, asked: Option<u64>, seen: &Seen) -> Option<Stamp>
     ensures { result ≡ stamp_of now asked seen.now }
 {
     now.map(|now| Stamp {
-        of_day: now.of_day,
+        utc: now.utc,
         waited: waited_of(now, asked, seen),
     })
 }
 
 /// Reads bytes that one side sent, until there is a result or the piece ends, and prints the
-/// result. If a moment is given, the first line ends with the time of day, and that of a reply also
-/// with the seconds that its command waited.
+/// result. If a moment is given, the first line ends with the time. The first line of a reply also
+/// has the seconds that its command waited.
 ///
 /// The call reads at least one byte of a piece that is not empty. Call it again with the rest of
 /// the piece.
@@ -73,7 +74,7 @@ pub(crate) fn stamp_of(now: Option<Moment>, asked: Option<u64>, seen: &Seen) -> 
 ///
 /// [`Watched::printed`] has the error of printing. The tap has read the bytes in any case.
 pub fn watch_some<W: Sink>(
-    tap: &mut TimedTap,
+    tap: &mut Tap,
     printing: Printing,
     side: Side,
     piece: &[u8],
@@ -83,11 +84,11 @@ pub fn watch_some<W: Sink>(
     ensures watches { (what : Seen) × Watches printing side now tap.old tap.new piece.now result
         what (W.written writer.old) (W.written writer.new) (W.failures writer.old)
         (W.failures writer.new) }
-    ensures other_side { KeepsOther side tap.old.tap tap.new.tap }
+    ensures other_side { KeepsOther side tap.old tap.new }
     ensures within_piece { result.used ≤ length piece.now }
     ensures uses_bytes { 0 < length piece.now → 0 < result.used }
 {
-    let options = tap.tap.options(printing);
+    let options = tap.options(printing);
     let asked = tap.asked();
     let step = step(tap, side, piece, now);
     let stamp = stamp_of(now, asked, &step.seen);
@@ -110,7 +111,7 @@ pub fn watch_some<W: Sink>(
 /// From [samples](../../samples/src/tapping.rt):
 ///
 /// ```rust
-/// let mut tap = TimedTap::new(alloc, &Limits::standard(), ShownPart::all());
+/// let mut tap = Tap::new(alloc, &Limits::standard(), ShownPart::all());
 /// let mut text = MemorySink::new(alloc, 4_096, 4_096)?;
 /// let printing = Printing {
 ///     client: 1,
@@ -130,9 +131,8 @@ pub fn watch_some<W: Sink>(
 /// client 1 reply 1
 ///   int 7
 /// ```
-#[tactic(auto, using(crate::proofs::PieceLemmas::keeps_on, crate::proofs::PieceLemmas::watched_more, crate::proofs::PieceLemmas::watched_all))]
 pub fn watch<W: Sink>(
-    tap: &mut TimedTap,
+    tap: &mut Tap,
     printing: Printing,
     side: Side,
     piece: &[u8],
@@ -142,15 +142,34 @@ pub fn watch<W: Sink>(
     ensures watches { (all : List Seen) × WatchesAll (Watches printing side now) all tap.old tap.new
         piece.now (W.written writer.old) (W.written writer.new) (W.failures writer.old)
         (W.failures writer.new) result }
-    ensures other_side { KeepsOther side tap.old.tap tap.new.tap }
+    ensures other_side { KeepsOther side tap.old tap.new }
 {
-    let mut rest = piece;
-    let mut printed = Ok(());
-    while !rest.is_empty() {
-        let watched = watch_some(tap, printing, side, rest, now, writer);
-        printed = printed.and(watched.printed);
-        // At least one byte was read.
-        rest = &rest[watched.used..];
+    let given = Given { printing, now };
+    watch_each(tap, &mut (), given, side, piece, writer)
+}
+
+impl WatchSome<Given<Option<Moment>>> for Tap {
+    ghost use Rattle.resp_tap.specs.Watches.{Watches};
+    ghost use Rattle.resp_tap.specs.declared.tap.Tap.{Tap};
+
+    type Shared = ();
+
+    ghost State = { Tap };
+
+    ghost state = { λ tap _. tap };
+
+    ghost tap_in = { λ tap. tap };
+
+    ghost watches = { λ given side. Watches given.printing side given.now };
+
+    fn watch_some<W: Sink>(
+        &mut self,
+        _shared: &mut Self::Shared,
+        given: Given<Option<Moment>>,
+        side: Side,
+        piece: &[u8],
+        writer: &mut W,
+    ) -> Watched {
+        watch_some(self, given.printing, side, piece, given.now, writer)
     }
-    printed
 }

@@ -13,6 +13,7 @@ pub mod ViabilityLaws
 pub mod LocalRuleLemmas
 pub mod ByteLemmas
 pub mod DigitLemmas
+pub mod StdDigits
 pub mod Choices
 pub mod DefaultLimits
 pub mod SmallTrees
@@ -22,3 +23,4 @@ pub mod RefusedExamples
 pub mod ReadValues
 pub mod EqualValues
 pub mod CommandValues
+pub mod Cutting

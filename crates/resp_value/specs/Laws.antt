@@ -1,6 +1,7 @@
 -- Statements that have to be true if the definitions of the grammar are right.
-use Rattle.std.specs.Prelude.{◌≡◌, ◌↔◌, ℕ, ◌<◌, ◌≤◌, List, [], ◌∷◌, ◌++◌, length, Bool, true, false, IsTrue, codes}
+use Rattle.std.specs.Prelude.{◌≡◌, ◌↔◌, ℕ, ◌^◌, ◌<◌, ◌≤◌, List, [], ◌∷◌, ◌++◌, length, Bool, true, false, IsTrue, codes}
 use Rattle.std.specs.List.{AllByRecursion}
+use Rattle.std.specs.Fmt as fmt
 use Rattle.std.specs.Str.{byte}
 use Rattle.resp_value.specs.Bounds.{AreBounds}
 use Rattle.resp_value.specs.TreeValues.{value}
@@ -9,6 +10,7 @@ use Rattle.resp_value.specs.Trees.{Tree, IsTree, Spells, text}
 use Rattle.resp_value.specs.Rules.{Rules, Rule, Grammar, NoDouble, InVersion, NotStreamed, WithinItems, WithinTotal, Every, IsCountedLeaf, IsCountedNode, rank, Meets, Keeps}
 use Rattle.resp_value.specs.LocalRules.{MeetsLocally}
 use Rattle.resp_value.specs.Bytes.{IsText}
+use Rattle.resp_value.specs.Numbers.{decimal}
 use Rattle.resp_value.specs.Spellings.{IsSpelling, IsViable, IsCause, Cut, FaultOf}
 use Rattle.resp_value.specs.Canonical.{canonical_text, AllowsDoubles, IsValue, HasTypes, HasPushAtTop, HasNoDouble, Fits}
 use Rattle.resp_value.specs.Values.{datum_of}
@@ -32,6 +34,10 @@ NoSpellingBeginsAnother = (r s : Rules) (x y : Datum) (front front' rest rest' :
 -- no spelling is empty
 abbrev pub NoSpellingIsEmpty : Type 0
 NoSpellingIsEmpty = (r : Rules) (x : Datum) → IsSpelling r x [] → ⊥
+
+-- the decimal digits of a number are those that the standard library prints
+abbrev pub DigitsAreThoseOfStd : Type 0
+DigitsAreThoseOfStd = (n : ℕ) → n < 2 ^ 64 → fmt.decimal n ≡ decimal n
 
 -- a spelling begins with `>` exactly if its value is a push
 abbrev pub APushBeginsWithItsByte : Type 0

@@ -10,7 +10,6 @@ pub mod Rules
 pub mod LocalRules
 pub mod Spellings
 pub mod Canonical
-pub mod Devices
 pub mod Values
 pub mod Attributes
 pub mod Words
@@ -18,3 +17,5 @@ pub mod Commands
 pub mod Causes
 pub mod Laws
 pub mod Examples
+pub mod Cuts
+pub mod CutLaws

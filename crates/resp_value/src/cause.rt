@@ -5,13 +5,13 @@ ghost use Rattle.std.specs.Prelude.{◌≡◌};
 /// The first limit that a value to be encoded exceeds. The limits are checked in this order.
 #[derive(Clone, Copy, Debug, PartialEq, Eq)]
 pub enum Limit {
-    /// It has more aggregates inside one another than the limit of depth allows.
+    /// It has more aggregates inside one another than the limit `depth` allows.
     Depth,
-    /// It has a content of more bytes than the limit of length allows.
+    /// It has a content of more bytes than the limit `length` allows.
     Length,
-    /// It has an aggregate of more members or pairs than the limit of items allows.
+    /// It has an aggregate of more members or pairs than the limit `items` allows.
     Items,
-    /// Its canonical text has more bytes than the limit of total allows.
+    /// Its canonical text has more bytes than the limit `total` allows.
     Total,
 }
 
@@ -28,11 +28,11 @@ pub enum Cause {
     NestedPush,
     /// An integer is outside the range of a signed 64-bit integer.
     Range,
-    /// The value exceeds the limit of depth.
+    /// The value exceeds the limit `depth`.
     Depth,
-    /// A content exceeds the limit of length.
+    /// A content exceeds the limit `length`.
     Length,
-    /// The value cannot end within the limit of total.
+    /// The value cannot end within the limit `total`.
     Total,
     /// The input ended inside a value.
     Truncated,
@@ -40,7 +40,7 @@ pub enum Cause {
     OutOfMemory,
     /// A streamed form was received, and the limits do not allow streamed forms.
     Streamed,
-    /// An aggregate exceeds the limit of items.
+    /// An aggregate exceeds the limit `items`.
     Items,
     /// A value other than a push was received while no command waits for a reply.
     Unasked,

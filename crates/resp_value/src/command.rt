@@ -26,7 +26,7 @@ pub struct BadCommand {
 impl Command {
     ghost use Rattle.resp_value.specs.Commands.{words_of};
 
-    /// Makes a command of the given words, the name first. Does not allocate.
+    /// Creates a command of the given words, the name first. Does not allocate.
     ///
     /// # Errors
     ///

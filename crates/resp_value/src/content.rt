@@ -10,7 +10,7 @@ use std::alloc::{AllocError, Global};
 /// verbatim string after its format (Redis serialization protocol specification, "Bulk strings",
 /// "Bulk errors" and "Verbatim strings").
 ///
-/// A content has no limit of its own. The limit of length is checked when a value is read or
+/// A content has no limit of its own. The limit `length` is checked when a value is read or
 /// written.
 #[derive(Debug, PartialEq, Eq, Drop)]
 pub struct Content {
@@ -21,7 +21,7 @@ pub struct Content {
 impl Content {
     ghost use Rattle.resp_value.specs.Values.{content_bytes};
 
-    /// Makes a content of the given bytes, which may be empty. Does not allocate.
+    /// Creates a content of the given bytes, which may be empty. Does not allocate.
     pub fn new(bytes: Vec<u8>) -> Content
         ensures { content_bytes result ≡ bytes.items }
     {

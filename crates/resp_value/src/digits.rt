@@ -111,7 +111,8 @@ impl Digits {
         }
     }
 
-    /// Makes a big number of this sign and these digits, and keeps their memory. Does not allocate.
+    /// Creates a big number of this sign and these digits, and keeps their memory. Does not
+    /// allocate.
     ///
     /// Returns `None` if the digits are empty or contain another byte than a digit, if they have a
     /// leading zero, or if they are a negative `0`.

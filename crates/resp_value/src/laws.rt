@@ -5,12 +5,13 @@
 //! encoding.
 
 ghost use Rattle.std.specs.Prelude.{[], ◌∷◌, ◌≡◌, codes, true, false, pos, negsuc};
+ghost use Rattle.resp_value.specs.CutLaws.{ACutValueIsCutAlready, LengthsStayAsMany, ShortTextsAreKept};
 ghost use Rattle.resp_value.specs.Canonical.{canonical_text};
 ghost use Rattle.resp_value.specs.Data.{depth, longest, most_items, scalar, Array, Set, Map, Attr, Null, Bool, Error, Double, Bulk, BulkError, Verbatim, Big};
 ghost use Rattle.resp_value.specs.Examples.{integer, simple, aggregate_of, IsSpelledInBoth, IsSpelledInThree, IsSpelledStreamed, IsSpelledWithDoubles, SpellsNothing, SpellsNothingInTwo, SpellsNothingSwitchedOff, SpellsNothingWithoutDoubles, HasCause, HasCauseInThree, IsCutWithFault};
 ghost use Rattle.resp_value.specs.Rules.{Grammar, PushAtTop};
 ghost use Rattle.resp_value.specs.declared.version.Version.TheVariants.{Two, Three};
-ghost use Rattle.resp_value.specs.Laws.{EqualValuesHaveEqualData, ATextHasOneValue, NoSpellingBeginsAnother, NoSpellingIsEmpty, APushBeginsWithItsByte, ATextHasOneCut, ARestHasOneFault, VersionThreeSpellsWhatTwoDoes, CanonicalTextSpellsWhatFits, CanonicalTextTellsValuesApart, WhatWasReadFitsButForTotal, WhatWasReadCanBeWritten, WhatWasReadCountedCanBeWritten, ACountedSpellingIsNoShorter, FrontsOfSpellingsAreViable, FrontsOfViableTextsAreViable, LaterRulesLeaveLess, ATextHasOneCause, AViableTextHasNoCause, RulesHoldAtEachNode, TextsOfTreesAreBytes, DefaultItemsRefuseNothing, TheEmptyTextIsViable, TypeBytesAreViable, LaterTypeBytesWantVersionThree, ACommaBeginsADouble, DoublesAreAllThatTheSwitchAdds, FrontsAreViableWithoutDoubles, NoOtherByteBeginsATree};
+ghost use Rattle.resp_value.specs.Laws.{EqualValuesHaveEqualData, ATextHasOneValue, NoSpellingBeginsAnother, NoSpellingIsEmpty, DigitsAreThoseOfStd, APushBeginsWithItsByte, ATextHasOneCut, ARestHasOneFault, VersionThreeSpellsWhatTwoDoes, CanonicalTextSpellsWhatFits, CanonicalTextTellsValuesApart, WhatWasReadFitsButForTotal, WhatWasReadCanBeWritten, WhatWasReadCountedCanBeWritten, ACountedSpellingIsNoShorter, FrontsOfSpellingsAreViable, FrontsOfViableTextsAreViable, LaterRulesLeaveLess, ATextHasOneCause, AViableTextHasNoCause, RulesHoldAtEachNode, TextsOfTreesAreBytes, DefaultItemsRefuseNothing, TheEmptyTextIsViable, TypeBytesAreViable, LaterTypeBytesWantVersionThree, ACommaBeginsADouble, DoublesAreAllThatTheSwitchAdds, FrontsAreViableWithoutDoubles, NoOtherByteBeginsATree};
 
 use crate::value::Value;
 
@@ -34,6 +35,11 @@ pub fn no_spelling_begins_another()
 /// No spelling is empty.
 pub fn no_spelling_is_empty()
     ensures { NoSpellingIsEmpty }
+{}
+
+/// The decimal digits of a number are those that the standard library prints.
+pub fn digits_are_those_of_std()
+    ensures { DigitsAreThoseOfStd }
 {}
 
 /// A spelling begins with `>` if and only if its value is a push.
@@ -69,7 +75,7 @@ pub fn canonical_text_tells_values_apart()
 {}
 
 /// A value that was read can be written again. It fits all rules under which it was read, except
-/// perhaps the limit of total (`fits_but_for_total`). If its canonical text is within that limit
+/// perhaps the limit `total` (`fits_but_for_total`). If its canonical text is within that limit
 /// too, the text is a spelling of the value (`written`). This holds if nothing in the input was
 /// streamed, because the canonical text is then no longer than the input (`no_longer`). It always
 /// holds if the limits forbid streamed forms (`written_counted`).
@@ -105,7 +111,7 @@ pub fn a_viable_text_has_no_cause()
     ensures { AViableTextHasNoCause }
 {}
 
-/// Each rule except the limit of total holds of a tree if and only if it holds at each node, given
+/// Each rule except the limit `total` holds of a tree if and only if it holds at each node, given
 /// the node's depth.
 pub fn rules_hold_at_each_node()
     ensures { RulesHoldAtEachNode }
@@ -116,8 +122,8 @@ pub fn texts_of_trees_are_bytes()
     ensures { TextsOfTreesAreBytes }
 {}
 
-/// If streamed forms are allowed and the limit of items is the greatest total, the limit of items
-/// and the switch for streamed forms reject nothing: the trees and spellings are those of the other
+/// If streamed forms are allowed and the limit `items` is the greatest total, the limit `items` and
+/// the switch for streamed forms reject nothing: the trees and spellings are those of the other
 /// rules.
 pub fn default_items_refuse_nothing()
     ensures { DefaultItemsRefuseNothing }
@@ -272,4 +278,20 @@ pub fn texts_and_their_causes()
 pub fn a_cut_and_its_fault()
     ensures { IsCutWithFault (codes "+a\r\n+b\n+c\r\n")
         (simple (codes "a") ∷ []) (codes "+b\n+c\r\n") Grammar 2 }
+{}
+
+/// If no text has more bytes than are shown, the whole value is kept, and no lengths.
+pub fn short_texts_are_kept()
+    ensures { ShortTextsAreKept }
+{}
+
+/// Cutting a value again changes nothing.
+pub fn a_cut_value_is_cut_already()
+    ensures { ACutValueIsCutAlready }
+{}
+
+/// A cut value has as many texts with more bytes than are shown as there are lengths. So it is
+/// known which text each length belongs to.
+pub fn lengths_stay_as_many()
+    ensures { LengthsStayAsMany }
 {}

@@ -1,5 +1,5 @@
-//! Values of RESP2 and RESP3 (Redis serialization protocol specification), limits, error causes,
-//! and byte devices.
+//! Values of RESP2 and RESP3 (Redis serialization protocol specification), limits and error
+//! causes.
 //!
 //! The grammar is defined in `specs/`. The contracts of all crates cite these definitions, and
 //! [`laws`] proves facts about them.
@@ -8,7 +8,7 @@
 pub mod cause;
 pub mod command;
 pub mod content;
-pub mod device;
+mod cut_value;
 pub mod digits;
 pub mod kind;
 pub mod laws;
@@ -20,9 +20,7 @@ pub mod version;
 pub use cause::{Cause, Limit};
 pub use command::{BadCommand, Command};
 pub use content::Content;
-pub use device::{
-    Device, DeviceFault, MemorySink, MemorySource, Sink, Source, WriteFault, write_all,
-};
+pub use cut_value::CutValue;
 pub use digits::{Digits, DigitsError};
 pub use kind::OpenKind;
 pub use limits::{BadLimits, Limits};

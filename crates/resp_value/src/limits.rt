@@ -84,7 +84,7 @@ pub struct BadLimits;
 
 impl Limits {
     /// Makes limits of depth (4 to 128), of the bytes of one content (64 to 1,073,741,824) and of
-    /// the bytes of one value (256 to 1,099,511,627,776). The limit of items is the default,
+    /// the bytes of one value (256 to 1,099,511,627,776). The limit `items` is the default,
     /// streamed forms are allowed, and doubles are not.
     ///
     /// # Errors
@@ -140,7 +140,7 @@ impl Limits {
         }
     }
 
-    /// Sets the limit of items: the members of one array, set or push, or the pairs of one map or
+    /// Sets the limit `items`: the members of one array, set or push, or the pairs of one map or
     /// attribute (16 to 1,099,511,627,776). The other limits stay the same.
     ///
     /// # Errors

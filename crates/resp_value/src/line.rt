@@ -34,7 +34,7 @@ fn is_line(bytes: &[u8]) -> bool
 impl Line {
     ghost use Rattle.resp_value.specs.Values.{line_text};
 
-    /// Makes a line of the given bytes, which may be empty. Does not allocate.
+    /// Creates a line of the given bytes, which may be empty. Does not allocate.
     ///
     /// # Errors
     ///
@@ -63,7 +63,7 @@ impl Line {
         }
     }
 
-    /// Makes a line of bytes that contain neither CR nor LF, which the caller has to prove. Does
+    /// Creates a line of bytes that contain neither CR nor LF, which the caller has to prove. Does
     /// not allocate, and does not look at the bytes.
     #[inline]
     pub fn of_plain(bytes: Vec<u8>) -> Line

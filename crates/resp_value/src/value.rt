@@ -83,7 +83,7 @@ pub enum Value {
 }
 
 impl Members {
-    /// Makes a list of the given members. Does not allocate.
+    /// Creates a list of the given members. Does not allocate.
     pub fn new(items: Vec<Value>) -> Members
         ensures { list_of result ≡ items.items }
     {
@@ -107,7 +107,7 @@ impl Members {
 }
 
 impl PairList {
-    /// Makes a list of the given pairs. Does not allocate.
+    /// Creates a list of the given pairs. Does not allocate.
     pub fn new(pairs: Vec<(Value, Value)>) -> PairList
         ensures { pairs_of result ≡ pairs.items }
     {

@@ -2,7 +2,7 @@
 use Rattle.std.proofs.Common.{◌≡◌, ℕ, ◌≤◌, List, [], ◌++◌, length, take, drop, Option, Err, sym, ap, subst, ◌∙◌, arith}
 use Rattle.std.specs.Prelude.{IsErrOf, Result}
 use Rattle.std.proofs.lemmas.List.{append-nil, take-append-drop, take_all}
-use Rattle.resp_value.specs.Devices.{Appends}
+use Rattle.resp_io.specs.Devices.{Appends}
 use Rattle.resp_client.specs.Clients.{ClientState, state_of, without_front}
 use Rattle.resp_client.specs.declared.client.Client.{Client}
 use Rattle.resp_wire.specs.Asking.{SendsAll, SendsPart, asked, sent}

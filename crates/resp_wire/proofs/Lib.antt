@@ -3,10 +3,11 @@ pub mod Queueing
 pub mod Exchanges
 pub mod Seated
 pub mod ServedTexts
-pub mod ServeStops
 pub mod AnsweredOn
-pub mod AnsweredParts
 pub mod LinkStops
 pub mod worlds
 pub mod Showing
 pub mod LinkTraffic
+pub mod Visited
+pub mod HubSessions
+pub mod HubVisits

@@ -3,7 +3,7 @@ use Rattle.std.proofs.Common.{◌≡◌, inl, inr, ◌∙◌, ℕ, zero, suc, �
 use Rattle.std.proofs.lemmas.List.{map-set}
 use Rattle.std.proofs.lemmas.Option.{slice_get-map, slice_get_read}
 use Rattle.std.specs.Option.{option_map}
-use Rattle.resp_value.specs.Devices.{HasRisen, count_after, failures_after}
+use Rattle.resp_io.specs.Devices.{HasRisen, count_after, failures_after}
 use Rattle.resp_value.specs.declared.cause.Cause.{Cause}
 use Rattle.resp_value.specs.declared.cause.Cause.TheVariants as cause
 use Rattle.resp_client.specs.Standing.{IsOfBytes}
@@ -12,7 +12,7 @@ use Rattle.resp_server.specs.declared.error.PushError.TheVariants as push
 use Rattle.resp_wire.specs.Carrying.{StopsCarrying}
 use Rattle.resp_wire.specs.Ends.{outcome_of_push}
 use Rattle.resp_wire.specs.Links.{is_of_link}
-use Rattle.resp_turns.specs.Turns.{stopped_by}
+use Rattle.resp_io.specs.Turns.{stopped_by}
 use Rattle.resp_wire.specs.Worlds.{CountsFailures, KeepFailures}
 
 -- a cause of bytes that come is none of a link

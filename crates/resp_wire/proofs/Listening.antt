@@ -23,21 +23,21 @@ use Rattle.resp_wire.specs.Hearing.{Adds, AddsHeard, HearsAll, HearsFault, Hears
 use Rattle.resp_wire.specs.Stops.{FailsReading, KeepsFault, StopsClient, StopsListening, error_by, is_of_last_read}
 use Rattle.resp_wire.specs.declared.error.AskError.{AskError}
 use Rattle.resp_wire.specs.declared.error.AskError.TheVariants as error
-use Rattle.resp_wire.specs.declared.asked.Asked.{Asked}
-use Rattle.resp_turns.proofs.Pieces.{before_more}
+use Rattle.resp_wire.specs.declared.asked.Responses.{Responses}
+use Rattle.resp_io.proofs.Pieces.{before_more}
 
 -- What has been heard: the bytes before the rest.
-pub record HearsUpTo (s : ClientState) (c : Client) (before after : Asked) (front piece rest : List ℕ) : Type 0 where
+pub record HearsUpTo (s : ClientState) (c : Client) (before after : Responses) (front piece rest : List ℕ) : Type 0 where
   pub done : List ℕ
   pub parts : piece ≡ done ++ rest
   pub hears : HearsAll s c before after (front ++ done)
 
 -- nothing is added
-adds_nothing : (before : Asked) → Adds before before [] []
+adds_nothing : (before : Responses) → Adds before before [] []
 adds_nothing before = (sym (append-nil (replies_in before)), sym (append-nil (pushes_in before)))
 
 -- nothing has come
-pub hears_no_bytes : (c : Client) (before : Asked) (front : List ℕ) → HasTaken c front → HearsAll (state_of c) c before before (front ++ [])
+pub hears_no_bytes : (c : Client) (before : Responses) (front : List ℕ) → HasTaken c front → HearsAll (state_of c) c before before (front ++ [])
 hears_no_bytes c before front h = record {
   values = [];
   rest = front;
@@ -50,11 +50,11 @@ hears_no_bytes c before front h = record {
 }
 
 -- no piece has come
-pub waits_for_none : (s : ClientState) (before : Asked) (front : List ℕ) → WaitsBefore s before front []
+pub waits_for_none : (s : ClientState) (before : Responses) (front : List ℕ) → WaitsBefore s before front []
 waits_for_none s before front k less = absurd (omega (arith, less))
 
 -- a piece was read while a command waited
-pub waits_for_piece : (s : ClientState) (c : Client) (before mid : Asked) (front : List ℕ) (pieces : List (List ℕ)) (piece : List ℕ) →
+pub waits_for_piece : (s : ClientState) (c : Client) (before mid : Responses) (front : List ℕ) (pieces : List (List ℕ)) (piece : List ℕ) →
     HearsAll s c before mid (front ++ concat pieces) → 0 < length (state_of c).waiting.asks → WaitsBefore s before front pieces →
     WaitsBefore s before front (pieces ++ piece ∷ [])
 waits_for_piece s c before mid front pieces piece heard waits each =
@@ -65,7 +65,7 @@ waits_for_piece s c before mid front pieces piece heard waits each =
       waits = λ none. let same = ap length none in omega (arith, waits, same);
     })
 
-pub hears_nothing : (c : Client) (before : Asked) (front piece : List ℕ) → HasTaken c front → HearsUpTo (state_of c) c before before front piece piece
+pub hears_nothing : (c : Client) (before : Responses) (front piece : List ℕ) → HasTaken c front → HearsUpTo (state_of c) c before before front piece piece
 hears_nothing c before front piece h = record { done = []; parts = refl; hears = hears_no_bytes c before front h }
 
 -- The bytes of one turn after those of the turns before.
@@ -97,7 +97,7 @@ reads_more go_on s values others front done f more limits w after same r text re
 }
 
 -- what was added, and then more
-adds_more : (before mid after : Asked) (rs qs : List (ℕ × Datum)) (ps os : List Datum) → Adds before mid rs ps → Adds mid after qs os →
+adds_more : (before mid after : Responses) (rs qs : List (ℕ × Datum)) (ps os : List Datum) → Adds before mid rs ps → Adds mid after qs os →
     Adds before after (rs ++ qs) (ps ++ os)
 adds_more before mid after rs qs ps os a b =
     (b.0 ∙ ap (λ z. z ++ qs) a.0 ∙ append_assoc (replies_in before) rs qs, b.1 ∙ ap (λ z. z ++ os) a.1 ∙ append_assoc (pushes_in before) ps os)
@@ -108,7 +108,7 @@ numbered_on : (s : ClientState) (c : ClientState) (values : List Datum) → c.an
 numbered_on s c values e = omega (arith, e)
 
 -- more values were heard
-hears_values : HearingGoesOn → (s c : ClientState) (before mid after : Asked) (values others : List Datum) (qs : List (ℕ × Datum)) (os : List Datum) →
+hears_values : HearingGoesOn → (s c : ClientState) (before mid after : Responses) (values others : List Datum) (qs : List (ℕ × Datum)) (os : List Datum) →
     c.answered ≡ s.answered + length (replies_of values) → numbered_replies (next_number c) others ≡ qs → pushes_of others ≡ os →
     Adds before mid (numbered_replies (next_number s) values) (pushes_of values) → Adds mid after qs os →
     Adds before after (numbered_replies (next_number s) (values ++ others)) (pushes_of (values ++ others))
@@ -126,7 +126,7 @@ replies_more : (values others : List Datum) → length (replies_of (values ++ ot
 replies_more values others = ap length (filter-append (λ y. not (is_push y)) values others) ∙ length-append (replies_of values) (replies_of others)
 
 -- What one feed heard, after what was heard before.
-hears_on : ReadingsGoOn → HearingGoesOn → (s : ClientState) (c new : Client) (before mid after : Asked) (front done rest : List ℕ) (used : ℕ) (what : What) →
+hears_on : ReadingsGoOn → HearingGoesOn → (s : ClientState) (c new : Client) (before mid after : Responses) (front done rest : List ℕ) (used : ℕ) (what : What) →
     (h : HearsAll s c before mid (front ++ done)) → Hears c new h.rest rest used what → UnlessReplied what (state_of new ≡ state_of c) →
     AddsHeard mid after what → HearsAll s new before after (front ++ (done ++ take used rest))
 hears_on go_on goes_on s c new before mid after front done rest used (Reply number x) h given stays added =
@@ -181,7 +181,7 @@ hears_on go_on goes_on s c new before mid after front done rest used More h give
     }
 
 -- a turn more
-pub hears_more : ReadingsGoOn → HearingGoesOn → (s : ClientState) (c new : Client) (before mid after : Asked) (front piece rest beyond : List ℕ)
+pub hears_more : ReadingsGoOn → HearingGoesOn → (s : ClientState) (c new : Client) (before mid after : Responses) (front piece rest beyond : List ℕ)
     (used : ℕ) (what : What) → (w : HearsUpTo s c before mid front piece rest) → Hears c new w.hears.rest rest used what →
     UnlessReplied what (state_of new ≡ state_of c) → AddsHeard mid after what → beyond ≡ drop used rest →
     HearsUpTo s new before after front piece beyond
@@ -192,14 +192,14 @@ hears_more go_on goes_on s c new before mid after front piece rest beyond used w
 }
 
 -- nothing is left of the piece
-pub hears_whole : (s : ClientState) (c : Client) (before after : Asked) (front piece rest : List ℕ) →
+pub hears_whole : (s : ClientState) (c : Client) (before after : Responses) (front piece rest : List ℕ) →
     HearsUpTo s c before after front piece rest → length rest ≡ 0 → HearsAll s c before after (front ++ piece)
 hears_whole s c before after front piece [] w none =
     subst (λ z. HearsAll s c before after (front ++ z)) (sym (w.parts ∙ append-nil w.done)) w.hears
 hears_whole s c before after front piece (byte ∷ rest) w none = absurd (omega (arith, none))
 
 -- all that came is the values, and after them what was taken and the rest
-reads_before : (s : ClientState) (c : Client) (before after : Asked) (front piece rest : List ℕ) →
+reads_before : (s : ClientState) (c : Client) (before after : Responses) (front piece rest : List ℕ) →
     (w : HearsUpTo s c before after front piece rest) →
     ReadsFrom s w.hears.values (front ++ piece) (state_of c).waiting (w.hears.rest ++ rest)
 reads_before s c before after front piece rest w = record {
@@ -209,7 +209,7 @@ reads_before s c before after front piece rest w = record {
 }
 
 -- no memory was found
-pub hears_some : (s : ClientState) (c : Client) (before after : Asked) (front piece rest : List ℕ) →
+pub hears_some : (s : ClientState) (c : Client) (before after : Responses) (front piece rest : List ℕ) →
     HearsUpTo s c before after front piece rest → HearsSome s before after (front ++ piece)
 hears_some s c before after front piece rest w = record {
   values = w.hears.values;
@@ -220,7 +220,7 @@ hears_some s c before after front piece rest w = record {
 }
 
 -- a byte is refused
-hears_fault : (s : ClientState) (c new : Client) (before after : Asked) (front piece rest : List ℕ) (fault : Fault) →
+hears_fault : (s : ClientState) (c new : Client) (before after : Responses) (front piece rest : List ℕ) (fault : Fault) →
     (w : HearsUpTo s c before after front piece rest) → (fault.cause ≡ cause.OutOfMemory → ⊥) → Refuses (state_of c) w.hears.rest rest fault →
     state_of new ≡ state_of c → StopsAtFault s new before after (front ++ piece) fault
 unfolding hears_some
@@ -237,14 +237,14 @@ hears_fault s c new before after front piece rest fault w other (inl is) same = 
 }
 
 -- the client stopped
-stops_by : (k : Cause) (s : ClientState) (c new : Client) (before after : Asked) (front piece rest : List ℕ) (fault : Fault) → fault.cause ≡ k →
+stops_by : (k : Cause) (s : ClientState) (c new : Client) (before after : Responses) (front piece rest : List ℕ) (fault : Fault) → fault.cause ≡ k →
     (w : HearsUpTo s c before after front piece rest) → Refuses (state_of c) w.hears.rest rest fault → state_of new ≡ state_of c →
     StopsListening s new before after (front ++ piece) (error_by k fault)
 stops_by cause.OutOfMemory s c new before after front piece rest fault is w refused same = hears_some s c before after front piece rest w
 stops_by k s c new before after front piece rest fault is w refused same =
     hears_fault s c new before after front piece rest fault w (λ memory. let z : k ≡ cause.OutOfMemory = sym is ∙ memory in absurd (cc)) refused same
 
-pub stops_hearing : (s : ClientState) (c new : Client) (before after : Asked) (front piece rest : List ℕ) (fault : Fault) (error : AskError) →
+pub stops_hearing : (s : ClientState) (c new : Client) (before after : Responses) (front piece rest : List ℕ) (fault : Fault) (error : AskError) →
     error ≡ error_by fault.cause fault → (w : HearsUpTo s c before after front piece rest) → Refuses (state_of c) w.hears.rest rest fault →
     state_of new ≡ state_of c → StopsListening s new before after (front ++ piece) error
 stops_hearing s c new before after front piece rest fault error is w refused same =
@@ -260,7 +260,7 @@ pub keeps_fault : (c : Client) (fault : Fault) → HasFault c fault → KeepsFau
 keeps_fault c fault has = keeps_by fault.cause c fault has
 
 -- what isn't added stays
-pub hears_none_more : (s : ClientState) (c : Client) (before mid after : Asked) (front piece rest : List ℕ) →
+pub hears_none_more : (s : ClientState) (c : Client) (before mid after : Responses) (front piece rest : List ℕ) →
     HearsUpTo s c before mid front piece rest → replies_in after ≡ replies_in mid → pushes_in after ≡ pushes_in mid →
     HearsSome s before after (front ++ piece)
 hears_none_more s c before mid after front piece rest w replies pushes =
@@ -281,7 +281,7 @@ reads_on : ReadingsGoOn → (s : ClientState) (c : Client) (values others : List
 reads_on go_on s c values others front came piece f rest after same first second =
     reads_more go_on s values others front came f piece (state_of c).limits (state_of c).waiting after same first second.text rest second.reads second.whole
 
-pub hears_piece : ReadingsGoOn → HearingGoesOn → (s : ClientState) (c new : Client) (before mid after : Asked) (front came piece : List ℕ) →
+pub hears_piece : ReadingsGoOn → HearingGoesOn → (s : ClientState) (c new : Client) (before mid after : Responses) (front came piece : List ℕ) →
     (h : HearsAll s c before mid (front ++ came)) → HearsAll (state_of c) new mid after (h.rest ++ piece) → HearsAll s new before after (front ++ (came ++
     piece))
 hears_piece go_on goes_on s c new before mid after front came piece h p = record {
@@ -295,7 +295,7 @@ hears_piece go_on goes_on s c new before mid after front came piece h p = record
   same_out = p.same_out ∙ h.same_out;
 }
 
-some_in_piece : ReadingsGoOn → HearingGoesOn → (s : ClientState) (c : Client) (before mid after : Asked) (front came piece : List ℕ) →
+some_in_piece : ReadingsGoOn → HearingGoesOn → (s : ClientState) (c : Client) (before mid after : Responses) (front came piece : List ℕ) →
     (h : HearsAll s c before mid (front ++ came)) → HearsSome (state_of c) mid after (h.rest ++ piece) → HearsSome s before after (front ++ (came ++ piece))
 some_in_piece go_on goes_on s c before mid after front came piece h p = record {
   values = h.values ++ p.values;
@@ -305,7 +305,7 @@ some_in_piece go_on goes_on s c before mid after front came piece h p = record {
   heard = hears_values goes_on s (state_of c) before mid after h.values p.values _ _ h.answered refl refl h.heard p.heard;
 }
 
-pub fault_in_piece : ReadingsGoOn → HearingGoesOn → (s : ClientState) (c : Client) (before mid after : Asked) (front came piece : List ℕ) (fault : Fault) →
+pub fault_in_piece : ReadingsGoOn → HearingGoesOn → (s : ClientState) (c : Client) (before mid after : Responses) (front came piece : List ℕ) (fault : Fault) →
     (h : HearsAll s c before mid (front ++ came)) → HearsFault (state_of c) mid after (h.rest ++ piece) fault →
     HearsFault s before after (front ++ (came ++ piece)) fault
 unfolding some_in_piece
@@ -314,7 +314,7 @@ fault_in_piece go_on goes_on s c before mid after front came piece fault h p = r
   fault_of = subst (λ limits. ClientFault limits p.some.waiting p.some.rest fault.cause fault.at) h.same_limits p.fault_of;
 }
 
-pub stops_piece : ReadingsGoOn → HearingGoesOn → (s : ClientState) (c new : Client) (before mid after : Asked) (front came piece : List ℕ) (error : AskError) →
+pub stops_piece : ReadingsGoOn → HearingGoesOn → (s : ClientState) (c new : Client) (before mid after : Responses) (front came piece : List ℕ) (error : AskError) →
     (h : HearsAll s c before mid (front ++ came)) → StopsListening (state_of c) new mid after (h.rest ++ piece) error →
     StopsListening s new before after (front ++ (came ++ piece)) error
 unfolding fault_in_piece some_in_piece

@@ -1,13 +1,11 @@
 -- A hub with another session in the place of one.
 use Rattle.std.proofs.Common.{arith, length, ◌≤◌, ◌≡◌, ℕ, ◌==◌, Bool, true, false, cond, Option, None, Some, List, [], ◌∷◌, IfSome, refl, sym, ap, subst, ◌∙◌}
-use Rattle.std.specs.Option.{option_map}
 use Rattle.std.proofs.lemmas.List.{length-append}
 use Rattle.resp_server.specs.Handling.{WhereOpen}
 use Rattle.resp_server.specs.Hubs.{HubState, Seat, WaitsAtMost, seat_at, seated, with_seat}
 use Rattle.resp_server.specs.Reading.{HasReadFront}
 use Rattle.resp_server.proofs.Seats.{put_there, with_same}
-use Rattle.resp_server.specs.Sending.{HasSent, IsClosing}
-use Rattle.resp_wire.specs.Serving.{IsOpen}
+use Rattle.resp_server.specs.Sending.{HasSent}
 
 -- there stands then the new session
 pub seat_here : (hub : HubState) (id : ℕ) (old new : Seat) → seat_at hub id ≡ Some old → seat_at (seated hub id new) id ≡ Some new
@@ -65,38 +63,8 @@ open_map hub id P Q f w = where_open hub id Q (λ s here not_closing front taken
 abbrev pub IsThere : HubState → ℕ → Type 0
 IsThere hub id = (s : Seat) × (seat_at hub id ≡ Some s)
 
--- a session that is open is there
-pub open_is_there : (hub : HubState) (id : ℕ) → IsOpen hub id → IsThere hub id
-open_is_there hub id o = (o.seat, o.here)
-
 pub not_there : (hub : HubState) (id : ℕ) → IsThere hub id → seat_at hub id ≡ None → ⊥
 not_there hub id (s, here) none = let e : Some s ≡ None = sym here ∙ none in absurd (cc)
-
--- a session that isn't closing is open
-open_by : (hub : HubState) (id : ℕ) (o : Option Seat) → seat_at hub id ≡ o → option_map (λ (s : Seat). s.closing) o ≡ Some false →
-    IfSome o (λ s. s.closing ≡ false → (front : List ℕ) × HasReadFront s.decoder front) → IsOpen hub id
-open_by hub id None is closing taking = absurd (cc)
-open_by hub id (Some s) is closing taking =
-    let not_closing : s.closing ≡ false = cc in
-    let (front, taken) = taking not_closing in
-    record { seat = s; here = is; not_closing = not_closing; front = front; taken = taken }
-
-pub is_open : (hub : HubState) (id : ℕ) (closing : Bool) → IsClosing hub id closing → closing ≡ false →
-    IfSome (seat_at hub id) (λ s. s.closing ≡ false → (front : List ℕ) × HasReadFront s.decoder front) → IsOpen hub id
-is_open hub id closing is not taking = open_by hub id (seat_at hub id) refl (is ∙ ap Some not) taking
-
-there_by : (hub : HubState) (id : ℕ) (closing : Bool) (o : Option Seat) → seat_at hub id ≡ o → option_map (λ (s : Seat). s.closing) o ≡ Some closing →
-    IsThere hub id
-there_by hub id closing None is e = absurd (cc)
-there_by hub id closing (Some s) is e = (s, is)
-
-pub closing_is_there : (hub : HubState) (id : ℕ) (closing : Bool) → IsClosing hub id closing → IsThere hub id
-closing_is_there hub id closing is = there_by hub id closing (seat_at hub id) refl is
-
--- of a session that is closing or isn't there nothing is said
-pub not_open : (hub : HubState) (id : ℕ) (P : Seat → List ℕ → Type 0) → IsClosing hub id true → WhereOpen hub id P
-not_open hub id P is = where_open hub id P (λ s here not_closing front taken.
-    let e : Some s.closing ≡ Some true = sym (ap (option_map (λ (t : Seat). t.closing)) here) ∙ is in absurd (cc))
 
 pub nowhere : (hub : HubState) (id : ℕ) (P : Seat → List ℕ → Type 0) → seat_at hub id ≡ None → WhereOpen hub id P
 nowhere hub id P none = where_open hub id P (λ s here not_closing front taken. absurd (not_there hub id (s, here) none))
@@ -116,15 +84,3 @@ sent_few old new id held held' waits most h few =
     let before = few_in (seat_at old id) h.seat most h.here few in
     let size = ap length h.parts ∙ length-append h.text waits in
     few_by (seat_at new id) seat most (ap (λ (g : HubState). seat_at g id) h.state ∙ seat_here old id h.seat seat h.here) (omega (arith, before, size))
-
-pub sent_none : (old new : HubState) (id : ℕ) (held held' : Option (List ℕ)) → HasSent old new id held held' [] → WaitsAtMost 0 new id
-sent_none old new id held held' h =
-    let seat : Seat = record { version = h.seat.version; out = []; closing = h.seat.closing; decoder = h.seat.decoder } in
-    few_by (seat_at new id) seat 0 (ap (λ (g : HubState). seat_at g id) h.state ∙ seat_here old id h.seat seat h.here) (omega arith)
-
-few_at : (o : Option Seat) (most : ℕ) → IfSome o (λ s. length s.out ≤ 0) → IfSome o (λ s. length s.out ≤ most)
-few_at None most few = tt
-few_at (Some s) most few = omega (arith, few)
-
-pub none_is_few : (hub : HubState) (id most : ℕ) → WaitsAtMost 0 hub id → WaitsAtMost most hub id
-none_is_few hub id most few = few_at (seat_at hub id) most few

@@ -1,10 +1,8 @@
 -- Texts that are answered and written, one after another.
-use Rattle.std.proofs.Common.{◌≡◌, ℕ, ◌+◌, ◌-◌, ◌<◌, ◌^◌, IfSome, Result, Ok, Err, length, Bool, true, false, Option, Some, List, [], ◌∷◌, ◌++◌, take, refl, sym, ap, subst, ◌∙◌, arith, append_assoc}
-use Rattle.std.specs.List.{concat}
+use Rattle.std.proofs.Common.{◌≡◌, ℕ, ◌+◌, Bool, true, false, IfSome, Option, Some, List, [], ◌++◌, length, refl, sym, ap, subst, ◌∙◌, arith, append_assoc}
 use Rattle.std.proofs.lemmas.List.{append-nil}
-use Rattle.std.specs.Option.{option_map}
 use Rattle.resp_value.specs.Bounds.{Bounds}
-use Rattle.resp_value.specs.Devices.{Appends}
+use Rattle.resp_io.specs.Devices.{Appends}
 use Rattle.resp_value.specs.declared.version.Version.{Version}
 use Rattle.resp_session.specs.AnswerLaws.{AnswersAreAdded, AnswersGoOn}
 use Rattle.resp_session.specs.Answers.{Answers, SessionState}
@@ -13,16 +11,12 @@ use Rattle.resp_server.specs.Answering.{TakesWithin, state_with}
 use Rattle.resp_server.specs.Handling.{HasAnswered, HasCutShort, WhereOpen}
 use Rattle.resp_server.specs.Hubs.{HubState, Seat, seat_at, seated, stocked}
 use Rattle.resp_server.specs.Reading.{HasReadFront, Reading}
-use Rattle.resp_server.specs.Sending.{HasSent, IsClosing}
-use Rattle.resp_server.proofs.AnsweredHubs.{used_up}
-use Rattle.resp_wire.specs.Serving.{AnswersBefore, HadAnswered, IsOpen, MayLeave, Serves, StopsServing}
+use Rattle.resp_server.specs.Sending.{HasSent}
+use Rattle.resp_wire.specs.Serving.{IsOpen, Serves, StopsServing}
 use Rattle.resp_wire.specs.declared.error.ServeError.{ServeError}
 use Rattle.resp_wire.specs.declared.error.ServeError.TheVariants.{NoSession, OutOfMemory, Read, Write, TooManyTurns}
-use Rattle.resp_wire.specs.declared.serve.Served.{Served}
-use Rattle.resp_wire.specs.declared.serve.Served.TheVariants.{Ended, Closed}
-use Rattle.resp_wire.proofs.Seated.{IsThere, at_open, where_open, one_seat, seat_here, seated_twice}
-use Rattle.resp_turns.proofs.Pieces.{before_more, concat_more}
-use Rattle.resp_turns.proofs.Turning.{appends_more, appends_nothing}
+use Rattle.resp_wire.proofs.Seated.{IsThere, at_open, one_seat, seat_here, seated_twice}
+use Rattle.resp_io.proofs.Turning.{appends_more, appends_nothing}
 
 abbrev pub seat_with : Version → List ℕ → Bool → Reading → Seat
 seat_with version out closing decoder = record { version = version; out = out; closing = closing; decoder = decoder }
@@ -250,36 +244,6 @@ pub answered_is_there : (old given : HubState) (id : ℕ) (s : Seat) (text : Lis
 answered_is_there old given id s text commands here a =
     let seat = seat_with a.version (s.out ++ a.reply) a.closing a.decoder in (seat, seat_given old given id s seat a.store here a.state)
 
--- a session of which something was written stays open
-pub sent_is_open : (old new : HubState) (id : ℕ) (held held' : Option (List ℕ)) (waits : List ℕ) → IsOpen old id → HasSent old new id held held' waits →
-    IsOpen new id
-sent_is_open old new id held held' waits o h =
-    let seat = seat_with h.seat.version waits h.seat.closing h.seat.decoder in
-    let same : h.seat ≡ o.seat = one_seat (seat_at old id) h.seat o.seat h.here o.here in
-    record {
-      seat = seat;
-      here = ap (λ g. seat_at g id) h.state ∙ seat_here old id h.seat seat h.here;
-      not_closing = ap (λ (t : Seat). t.closing) same ∙ o.not_closing;
-      front = o.front;
-      taken = subst (λ (t : Seat). HasReadFront t.decoder o.front) (sym same) o.taken;
-    }
-
--- a session stays open that has answered, and that is not closing once all is written
-pub stays_open : (old given new : HubState) (id : ℕ) (s : Seat) (text : List ℕ) (commands : ℕ) (held held' : Option (List ℕ)) (closing : Bool) →
-    seat_at old id ≡ Some s → HasAnswered old given id s text commands → HasSent given new id held held' [] → IsClosing new id closing → closing ≡ false →
-    IsOpen new id
-stays_open old given new id s text commands held held' closing here a sent is not =
-    let seat = seat_with a.version [] a.closing a.decoder in
-    let there = seat_given old new id s seat a.store here
-    (hub_sent old given new id s a.version (s.out ++ a.reply) a.closing a.decoder a.store held held' [] here a.state sent) in
-    let both : Some a.closing ≡ Some closing = sym (ap (option_map (λ (t : Seat). t.closing)) there) ∙ is in
-    let not_closing : a.closing ≡ false = cc in
-    record { seat = seat; here = there; not_closing = not_closing; front = a.rest; taken = a.taking not_closing }
-
--- and it isn't closing
-pub open_is : (hub : HubState) (id : ℕ) → IsOpen hub id → IsClosing hub id false
-open_is hub id o = ap (option_map (λ (t : Seat). t.closing)) o.here ∙ ap Some o.not_closing
-
 -- Where memory was wanting all that is answered waits.
 pub first_waits : (old new : HubState) (id : ℕ) (s : Seat) (front piece : List ℕ) (held : Option (List ℕ)) (commands : ℕ) → seat_at old id ≡ Some s →
     HasCutShort old new id s front piece commands → StopsServing old new id s front piece held held OutOfMemory
@@ -300,113 +264,6 @@ first_waits old new id s front piece held commands here a =
       },
     )
 
--- What was answered before each piece.
-
--- all that came is answered and written, and then more is written
-pub had_answered : (old cur : HubState) (id : ℕ) (s : Seat) (text : List ℕ) (held held' held'' : Option (List ℕ)) (later : List ℕ) →
-    Serves old cur id s text held held' [] → IsOpen cur id → Appends held' held'' later → HadAnswered old id s text held held''
-had_answered old cur id s text held held' held'' later v o appended = record {
-  between = cur;
-  held_before = held';
-  answered = v;
-  went_on = open_is cur id o;
-  later = later;
-  appended = appended;
-}
-
--- it stays so
-had_later : (old : HubState) (id : ℕ) (s : Seat) (text : List ℕ) (held held' held'' : Option (List ℕ)) (later : List ℕ) →
-    HadAnswered old id s text held held' → Appends held' held'' later → HadAnswered old id s text held held''
-had_later old id s text held held' held'' later h appended = record {
-  between = h.between;
-  held_before = h.held_before;
-  answered = h.answered;
-  went_on = h.went_on;
-  later = h.later ++ later;
-  appended = appends_more h.held_before held' held'' h.later later h.appended appended;
-}
-
-pub nothing_before : (old : HubState) (id : ℕ) (s : Seat) (front : List ℕ) (held held' : Option (List ℕ)) → AnswersBefore old id s front [] held held'
-nothing_before old id s front held held' k less = absurd (omega (arith, less))
-
--- a piece was read once all that came before it was answered and written
-answers_before : (old cur : HubState) (id : ℕ) (s : Seat) (front : List ℕ) (pieces : List (List ℕ)) (piece : List ℕ) (held held' held'' : Option (List ℕ))
-    (later : List ℕ) → Serves old cur id s (front ++ concat pieces) held held' [] → IsOpen cur id → AnswersBefore old id s front pieces held held' →
-    Appends held' held'' later → AnswersBefore old id s front (pieces ++ piece ∷ []) held held''
-answers_before old cur id s front pieces piece held held' held'' later v o before appended =
-    before_more (λ texts. HadAnswered old id s (front ++ concat texts) held held'') pieces piece
-    (λ k less. had_later old id s (front ++ concat (take k pieces)) held held' held'' later (before k less) appended)
-    (had_answered old cur id s (front ++ concat pieces) held held' held'' later v o appended)
-
--- what was written of a piece where that stopped
-pub stop_appends : (old new : HubState) (id : ℕ) (s : Seat) (front came : List ℕ) (held held' : Option (List ℕ)) (error : ServeError) →
-    StopsServing old new id s front came held held' error → (text : List ℕ) × Appends held held' text
-stop_appends old new id s front came held held' NoSession v = absurd v
-stop_appends old new id s front came held held' OutOfMemory (waits, given, commands, a, sent) = (sent.text, sent.appended)
-stop_appends old new id s front came held held' Read (v, going) = (v.sent.text, v.sent.appended)
-stop_appends old new id s front came held held' Write (waits, why, v) = (v.sent.text, v.sent.appended)
-stop_appends old new id s front came held held' TooManyTurns (waits, why, v) = (v.sent.text, v.sent.appended)
-
--- The same of every front of a session.
-
--- the pieces received were answered and the answers written, each piece before the next one was read
-abbrev pub HasServed : HubState → HubState → ℕ → List (List ℕ) → Option (List ℕ) → Option (List ℕ) → Seat → List ℕ → Type 0
-HasServed old cur id pieces held held' s front =
-    Serves old cur id s (front ++ concat pieces) held held' [] × AnswersBefore old id s front pieces held held'
-
--- what came was served, and this holds of the session as it then is
-came_and_went_on : (old cur : HubState) (id : ℕ) (pieces : List (List ℕ)) (held held' : Option (List ℕ)) →
-    WhereOpen old id (HasServed old cur id pieces held held') →
-    (o : IsOpen cur id) → (P : Seat → List ℕ → Type 0) → WhereOpen cur id P → (s : Seat) (front : List ℕ) → (here : seat_at old id ≡ Some s) →
-    s.closing ≡ false → HasReadFront s.decoder front → (v : Serves old cur id s (front ++ concat pieces) held held' []) ×
-    AnswersBefore old id s front pieces held held' ×
-    P (seat_of old cur id s (front ++ concat pieces) held held' (stands old cur id s (front ++ concat pieces) held held' here v o))
-    (stands old cur id s (front ++ concat pieces) held held' here v o).rest
-came_and_went_on old cur id pieces held held' before o P now_holds s front here not_closing taken =
-    let served = at_open old id (HasServed old cur id pieces held held') s front before here not_closing taken in
-    let st = stands old cur id s (front ++ concat pieces) held held' here served.0 o in
-    let now = seat_of old cur id s (front ++ concat pieces) held held' st in
-    (served.0, served.1, at_open cur id P now st.rest now_holds (seat_given old cur id s now st.store here st.state) refl st.taken)
-
--- what is served of a piece after what came
-pub piece_serves : AnswersGoOn → AnswersAreAdded → (old cur new : HubState) (id : ℕ) (pieces : List (List ℕ)) (piece : List ℕ)
-    (held held' held'' : Option (List ℕ)) → WhereOpen old id (HasServed old cur id pieces held held') → IsOpen cur id →
-    WhereOpen cur id (λ s front. Serves cur new id s (front ++ piece) held' held'' []) →
-    WhereOpen old id (HasServed old new id (pieces ++ piece ∷ []) held held'')
-piece_serves go_on added old cur new id pieces piece held held' held'' before o answered =
-    where_open old id _ (λ s here not_closing front taken.
-    let (v, each, now) = came_and_went_on old cur id pieces held held' before o (λ t f. Serves cur new id t (f ++ piece) held' held'' []) answered s front
-    here not_closing taken in
-    let st = stands old cur id s (front ++ concat pieces) held held' here v o in (
-      subst (λ z. Serves old new id s (front ++ z) held held'' []) (sym (concat_more pieces piece))
-          (serves_piece go_on added old cur new id s front (concat pieces) piece held held' held'' [] here st now),
-      answers_before old cur id s front pieces piece held held' held'' now.sent.text v o each now.sent.appended,
-    ))
-
--- and where that stops
-pub piece_stops : AnswersGoOn → AnswersAreAdded → (old cur new : HubState) (id : ℕ) (pieces : List (List ℕ)) (piece : List ℕ)
-    (held held' held'' : Option (List ℕ)) (error : ServeError) → WhereOpen old id (HasServed old cur id pieces held held') → IsOpen cur id →
-    WhereOpen cur id (λ s front. StopsServing cur new id s front piece held' held'' error) →
-    WhereOpen old id (λ s front. StopsServing old new id s front (concat pieces ++ piece) held held'' error ×
-    AnswersBefore old id s front (pieces ++ piece ∷ []) held held'')
-piece_stops go_on added old cur new id pieces piece held held' held'' error before o answered =
-    where_open old id _ (λ s here not_closing front taken.
-    let (v, each, now) = came_and_went_on old cur id pieces held held' before o (λ t f. StopsServing cur new id t f piece held' held'' error) answered s front
-    here not_closing taken in
-    let st = stands old cur id s (front ++ concat pieces) held held' here v o in
-    let (text, appended) = stop_appends cur new id (seat_of old cur id s (front ++ concat pieces) held held' st) st.rest piece held' held'' error now in (
-      stops_piece go_on added old cur new id s front (concat pieces) piece held held' held'' error here st now,
-      answers_before old cur id s front pieces piece held held' held'' text v o each appended,
-    ))
-
--- it is closing where it was
-pub sent_is_closing : (old new : HubState) (id : ℕ) (held held' : Option (List ℕ)) (waits : List ℕ) (closing : Bool) → HasSent old new id held held' waits →
-    IsClosing old id closing → IsClosing new id closing
-sent_is_closing old new id held held' waits closing h is =
-    let seat = seat_with h.seat.version waits h.seat.closing h.seat.decoder in
-    ap (option_map (λ (s : Seat). s.closing)) (ap (λ g. seat_at g id) h.state ∙ seat_here old id h.seat seat h.here) ∙
-    sym (ap (option_map (λ (s : Seat). s.closing)) h.here) ∙ is
-
 -- how much of a piece a session used that was found
 pub takes_at : (old given : HubState) (id : ℕ) (s : Seat) (most size used : ℕ) → seat_at old id ≡ Some s → (there : IsThere given id) →
     IfSome (seat_at old id) (λ s. IfSome (seat_at given id) (λ t. TakesWithin most (length s.out) (length t.out) t.closing size used)) →
@@ -414,33 +271,3 @@ pub takes_at : (old given : HubState) (id : ℕ) (s : Seat) (most size used : �
 takes_at old given id s most size used here (t, there) within =
     let P : Seat → Seat → Type 0 = λ a b. TakesWithin most (length a.out) (length b.out) b.closing size used in
     subst (λ o. IfSome o (P s)) there (subst (λ o. IfSome o (λ a. IfSome (seat_at given id) (P a))) here within)
-
--- a session of which bytes of a piece are left goes on
-pub goes_on : (given new : HubState) (id : ℕ) (most before size used : ℕ) (held held' : Option (List ℕ)) (waits : List ℕ) (closing : Bool)
-    (there : IsThere given id) → TakesWithin most before (length there.0.out) there.0.closing size used → HasSent given new id held held' waits →
-    IsClosing new id closing → used < size → closing ≡ false
-goes_on given new id most before size used held held' waits closing (t, there) takes sent is less =
-    let given_open : IsClosing given id false = ap (option_map (λ (b : Seat). b.closing)) there ∙ ap Some (takes.stops less).0 in
-    let both : Some closing ≡ Some false = sym is ∙ sent_is_closing given new id held held' waits false sent given_open in
-    cc
-
--- and more bytes wait in it than may
-pub waits_more : (given : HubState) (id most before size used : ℕ) (there : IsThere given id) →
-    TakesWithin most before (length there.0.out) there.0.closing size used → used < size → IfSome (seat_at given id) (λ s. most < length s.out)
-waits_more given id most before size used (t, there) takes less =
-    subst (λ o. IfSome o (λ (b : Seat). most < length b.out)) (sym there) (takes.stops less).1
-
--- a session that may hold everything uses the whole piece
-pub uses_all : (most before after : ℕ) (closing : Bool) (size used : ℕ) → TakesWithin most before after closing size used → most ≡ 2 ^ 64 - 1 → used ≡ size
-uses_all most before after closing size used takes all =
-    used_up before after closing size used (subst (λ m. TakesWithin m before after closing size used) all takes)
-
--- nothing may be left after each result
-pub leaves_none : (result : Result Served ServeError) → MayLeave result []
-leaves_none (Ok Ended) = refl
-leaves_none (Ok Closed) = refl
-leaves_none (Err NoSession) = refl
-leaves_none (Err OutOfMemory) = refl
-leaves_none (Err Read) = refl
-leaves_none (Err Write) = tt
-leaves_none (Err TooManyTurns) = tt

@@ -19,7 +19,7 @@ use Rattle.resp_server.specs.Hubs.{HubState, Seat, seat_at, seated}
 use Rattle.resp_wire.specs.Carrying.{HearsOn, MeetsFault, StopsCarrying, cause_of}
 use Rattle.resp_wire.specs.Hearing.{HearsAll, HearsFault}
 use Rattle.resp_wire.specs.Stops.{StopsClient, StopsListening, error_by}
-use Rattle.resp_wire.specs.declared.asked.Asked.{Asked}
+use Rattle.resp_wire.specs.declared.asked.Responses.{Responses}
 use Rattle.resp_wire.specs.declared.error.AskError.{AskError}
 use Rattle.resp_wire.proofs.LinkStops.{stops_with}
 use Rattle.resp_wire.proofs.Listening.{HearsUpTo, by_client, client_stops, hears_piece, stops_hearing, fault_in_piece}
@@ -64,7 +64,7 @@ pub waits_still : (old cur : HubState) (id : ℕ) (text : List ℕ) (done n : �
     IfSome (seat_at old id) (λ s. cur ≡ seated old id (without done s)) → done + n ≤ length text → IfSome (seat_at cur id) (λ t. n ≤ length t.out)
 waits_still old cur id text done n out dropped within = waits_by old cur id text done n (seat_at old id) refl out dropped within
 
-pub shows_more : ReadingsGoOn → HearingGoesOn → (first c new : Client) (before mid after : Asked) (old cur : HubState) (id done n : ℕ) →
+pub shows_more : ReadingsGoOn → HearingGoesOn → (first c new : Client) (before mid after : Responses) (old cur : HubState) (id done n : ℕ) →
     IfSome (seat_at old id) (λ t. cur ≡ seated old id (without done t)) →
     IfSome (seat_at old id) (λ t. WhereTaken first (λ f. HearsAll (state_of first) c before mid (f ++ take done t.out))) →
     IfSome (seat_at cur id) (λ t. WhereTaken c (λ f. HearsAll (state_of c) new mid after (f ++ take n t.out))) →
@@ -87,7 +87,7 @@ drops_more old cur new id done n dropped more = if_there old id _ (λ seat here.
     ap (λ h. seated h id last) state ∙ seated_twice old id (without done seat) last ∙
     ap (λ z. seated old id (seat_with seat.version z seat.closing seat.decoder)) (drop-drop n done seat.out))
 
-fault_on : ReadingsGoOn → HearingGoesOn → (s : ClientState) (c : Client) (before mid after : Asked) (front text : List ℕ) (done : ℕ) (cause : Cause) →
+fault_on : ReadingsGoOn → HearingGoesOn → (s : ClientState) (c : Client) (before mid after : Responses) (front text : List ℕ) (done : ℕ) (cause : Cause) →
     (h : HearsAll s c before mid (front ++ take done text)) → MeetsFault (state_of c) mid after h.rest (drop done text) cause →
     MeetsFault s before after front text cause
 fault_on go_on goes_on s c before mid after front text done cause h m = record {
@@ -98,7 +98,7 @@ fault_on go_on goes_on s c before mid after front text done cause h m = record {
   named = m.named;
 }
 
-pub stops_more : ReadingsGoOn → HearingGoesOn → (s : ClientState) (c : Client) (before mid after : Asked) (old cur : HubState) (id : ℕ) (seat : Seat)
+pub stops_more : ReadingsGoOn → HearingGoesOn → (s : ClientState) (c : Client) (before mid after : Responses) (old cur : HubState) (id : ℕ) (seat : Seat)
     (front : List ℕ) (done failures failures' failures'' : ℕ) (cause : Cause) → seat_at old id ≡ Some seat → cur ≡ seated old id (without done seat) →
     HearsAll s c before mid (front ++ take done seat.out) → failures' ≡ failures →
     IfSome (seat_at cur id) (λ t. WhereTaken c (λ f. StopsCarrying (MeetsFault (state_of c) mid after f t.out) failures' failures'' cause)) →
@@ -110,7 +110,7 @@ stops_more go_on goes_on s c before mid after old cur id seat front done failure
     (there_still old cur id seat done here state) more h.rest h.takes)
 
 -- a client's stop is OutOfMemory or a fault
-pub stops_showing : (s : ClientState) (c : Client) (before after : Asked) (front text : List ℕ) (n failures failures' : ℕ) (e : AskError) →
+pub stops_showing : (s : ClientState) (c : Client) (before after : Responses) (front text : List ℕ) (n failures failures' : ℕ) (e : AskError) →
     StopsClient e → StopsListening s c before after (front ++ take n text) e →
     StopsCarrying (MeetsFault s before after front text) failures failures' (cause_of e)
 stops_showing s c before after front text n failures failures' = by_client
@@ -140,7 +140,7 @@ settles old new front used More h given stays = (
   stays,
 )
 
-pub hears_settled : (s : ClientState) (c new : Client) (before after : Asked) (came : List ℕ) → (h : HearsAll s c before after came) →
+pub hears_settled : (s : ClientState) (c new : Client) (before after : Responses) (came : List ℕ) → (h : HearsAll s c before after came) →
     HasTaken new h.rest × MayGoOn (state_of c).limits (state_of c).waiting h.rest × (state_of new ≡ state_of c) → HearsOn s new before after came
 hears_settled s c new before after came h (takes, may, same) =
     let back : state_of c ≡ state_of new = sym same in
@@ -167,7 +167,7 @@ cause_by : (k : Cause) (fault : Fault) → fault.cause ≡ k → cause_of (error
 cause_by cause.OutOfMemory fault is = refl
 cause_by k fault is = is
 
-pub stops_settled : (s : ClientState) (c : Client) (before after : Asked) (front text : List ℕ) (count failures failures' : ℕ) (cause : Cause) →
+pub stops_settled : (s : ClientState) (c : Client) (before after : Responses) (front text : List ℕ) (count failures failures' : ℕ) (cause : Cause) →
     (h : HearsAll s c before after (front ++ take count text)) →
     (fault : Fault) × (fault.cause ≡ cause) × Refuses (state_of c) h.rest [] fault →
     StopsCarrying (MeetsFault s before after front text) failures failures' cause

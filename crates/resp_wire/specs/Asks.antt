@@ -6,16 +6,16 @@ use Rattle.resp_client.specs.Hearing.{KeepsReading, WhereTaken}
 use Rattle.resp_client.specs.declared.client.Client.{Client}
 use Rattle.resp_wire.specs.Asking.{SendsAll, SendsPart, sent}
 use Rattle.resp_wire.specs.Hearing.{WaitsBefore}
-use Rattle.resp_turns.specs.Pieces.{ReadsPieces}
+use Rattle.resp_io.specs.Pieces.{ReadsPieces}
 use Rattle.resp_wire.specs.Stops.{FailsReading, FailsWriting, StopsListening, StopsQueueing, is_of_last_read}
-use Rattle.resp_wire.specs.declared.asked.Asked.{Asked}
+use Rattle.resp_wire.specs.declared.asked.Responses.{Responses}
 use Rattle.resp_wire.specs.declared.asked.Request.{Request}
 use Rattle.resp_wire.specs.declared.error.AskError.{AskError}
 
 -- The bytes received are these pieces of at most `most` bytes, each from one read that was made while a request waited,
 -- with these replies and pushes.
 pub record HearsPieces {R : Type 0} (most : ℕ) (remaining : R → Option (List ℕ)) (calls failures : R → ℕ) (reader reader' : R)
-    (is_over : Bool) (old : Client) (s : ClientState) (before : Asked) (IsHeard : List ℕ → Type 0) : Type 0 where
+    (is_over : Bool) (old : Client) (s : ClientState) (before : Responses) (IsHeard : List ℕ → Type 0) : Type 0 where
   pub pieces : List (List ℕ)
   pub read : ReadsPieces most remaining calls failures reader reader' pieces is_over
   pub heard : WhereTaken old (λ front. IsHeard (front ++ concat pieces))
@@ -23,7 +23,7 @@ pub record HearsPieces {R : Type 0} (most : ℕ) (remaining : R → Option (List
 
 -- A request is refused before anything is written.
 pub record StopsBeforeWriting {W R : Type 0} (old new : Client) (requests : List Request) (writer writer' : W)
-    (reader reader' : R) (heard heard' : Asked) (error : AskError) : Type 0 where
+    (reader reader' : R) (heard heard' : Responses) (error : AskError) : Type 0 where
   pub stops : StopsQueueing old new requests error
   pub same_reading : KeepsReading old new
   pub nothing_written : writer' ≡ writer
@@ -32,7 +32,7 @@ pub record StopsBeforeWriting {W R : Type 0} (old new : Client) (requests : List
 
 -- A write fails, or no turn is left for one, before anything is read.
 pub record StopsInWriting {W R : Type 0} (written : W → Option (List ℕ)) (failures : W → ℕ) (old new : Client)
-    (requests : List Request) (writer writer' : W) (reader reader' : R) (heard heard' : Asked) (error : AskError) :
+    (requests : List Request) (writer writer' : W) (reader reader' : R) (heard heard' : Responses) (error : AskError) :
     Type 0 where
   pub sends_part : SendsPart old new requests (written writer) (written writer')
   pub same_reading : KeepsReading old new
@@ -43,7 +43,7 @@ pub record StopsInWriting {W R : Type 0} (written : W → Option (List ℕ)) (fa
 -- All was written, and the client stops in reading.
 pub record StopsInReading {W R : Type 0} (most : ℕ) (written : W → Option (List ℕ)) (remaining : R → Option (List ℕ))
     (calls failures : R → ℕ) (old new : Client) (requests : List Request) (writer writer' : W) (reader reader' : R)
-    (heard heard' : Asked) (error : AskError) : Type 0 where
+    (heard heard' : Responses) (error : AskError) : Type 0 where
   pub sends_all : SendsAll old requests (written writer) (written writer')
   pub fails : FailsReading (failures reader) (failures reader') (remaining reader) (remaining reader') (state_of new)
       error
@@ -53,7 +53,7 @@ pub record StopsInReading {W R : Type 0} (most : ℕ) (written : W → Option (L
 -- A request is refused before anything is written, or a write fails before anything is read, or all was written and the
 -- replies received before the error were added.
 abbrev pub StopsAsking : {W R : Type 0} → ℕ → (W → Option (List ℕ)) → (W → ℕ) → (R → Option (List ℕ)) → (R → ℕ) →
-    (R → ℕ) → Client → Client → List Request → W → W → R → R → Asked → Asked → AskError → Type 0
+    (R → ℕ) → Client → Client → List Request → W → W → R → R → Responses → Responses → AskError → Type 0
 StopsAsking most written write_failures remaining calls failures old new requests writer writer' reader reader' heard
     heard' error =
     StopsBeforeWriting old new requests writer writer' reader reader' heard heard' error ⊎

@@ -1,6 +1,6 @@
 -- Carrying bytes between a client and its session.
 use Rattle.std.specs.Prelude.{◌≡◌, ◌⊎◌, ℕ, Bool, true, false, List, ◌++◌, take, replicate}
-use Rattle.resp_value.specs.Devices.{HasRisen, failures_after}
+use Rattle.resp_io.specs.Devices.{HasRisen, failures_after}
 use Rattle.resp_value.specs.declared.cause.Cause.{Cause}
 use Rattle.resp_value.specs.declared.cause.Cause.TheVariants.{OutOfMemory}
 use Rattle.resp_scan.specs.declared.event.Fault.{Fault}
@@ -11,7 +11,7 @@ use Rattle.resp_server.specs.Handling.{HasAnswered}
 use Rattle.resp_server.specs.Hubs.{HubState, Seat}
 use Rattle.resp_wire.specs.Hearing.{HearsAll, HearsFault}
 use Rattle.resp_wire.specs.Links.{is_of_link}
-use Rattle.resp_wire.specs.declared.asked.Asked.{Asked}
+use Rattle.resp_wire.specs.declared.asked.Responses.{Responses}
 use Rattle.resp_wire.specs.declared.error.AskError.{AskError}
 use Rattle.resp_wire.specs.declared.error.AskError.TheVariants as ask
 
@@ -36,12 +36,12 @@ pub record LinkGoesOn {L : Type 0} (is_honest : L → Type 0) (fails : L → ℕ
   pub failures : fails new ≡ failures_after failed (fails old)
 
 -- all bytes received are read, and the bytes that the client has read of a value are viable
-pub record HearsOn (s : ClientState) (c : Client) (before after : Asked) (came : List ℕ) : Type 0 where
+pub record HearsOn (s : ClientState) (c : Client) (before after : Responses) (came : List ℕ) : Type 0 where
   pub hears : HearsAll s c before after came
   pub may_go_on : MayGoOn (state_of c).limits (state_of c).waiting hears.rest
 
 -- the client rejected a byte of the front and the first bytes of the text, with this cause
-pub record MeetsFault (s : ClientState) (before after : Asked) (front text : List ℕ) (cause : Cause) : Type 0 where
+pub record MeetsFault (s : ClientState) (before after : Responses) (front text : List ℕ) (cause : Cause) : Type 0 where
   pub count : ℕ
   pub fault : Fault
   pub met : HearsFault s before after (front ++ take count text) fault

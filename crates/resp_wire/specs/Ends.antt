@@ -16,7 +16,7 @@ use Rattle.resp_server.specs.declared.error.PushError.TheVariants as push
 use Rattle.resp_wire.specs.Hearing.{pushes_in, replies_in}
 use Rattle.resp_wire.specs.Requests.{request_of}
 use Rattle.resp_wire.specs.Worlds.{pushes_with, values_in}
-use Rattle.resp_wire.specs.declared.asked.Asked.{Asked}
+use Rattle.resp_wire.specs.declared.asked.Responses.{Responses}
 use Rattle.resp_wire.specs.declared.end.End.{End}
 use Rattle.resp_wire.specs.declared.event.Outcome.{Outcome}
 use Rattle.resp_wire.specs.declared.event.Outcome.TheVariants.{Done, Refused, Gone}
@@ -66,7 +66,7 @@ outcome_of_push (push.OverLimits limit) = Ok (Refused (cause.OverLimits limit))
 outcome_of_push push.OutOfMemory = Err cause.OutOfMemory
 
 -- the replies, without their numbers, and the pushes received are stored
-pub record KeepsHeard (old new : End) (heard : Asked) : Type 0 where
+pub record KeepsHeard (old new : End) (heard : Responses) : Type 0 where
   pub client : new.client ≡ old.client
   pub asked : new.asked ≡ old.asked
   pub replies : values_in new.replies.items ≡

@@ -11,7 +11,7 @@ use Rattle.resp_session.specs.Worlds.{World, WorldEvent, Drop, after_event, clie
 use Rattle.resp_server.specs.Hubs.{HubState, seat_at}
 use Rattle.resp_server.specs.Reading.{HasReadFront, Reading}
 use Rattle.resp_wire.specs.Ends.{IsNew}
-use Rattle.resp_turns.specs.Turns.{stopped_by}
+use Rattle.resp_io.specs.Turns.{stopped_by}
 use Rattle.resp_wire.specs.Links.{Traffic, is_of_link}
 use Rattle.resp_wire.specs.Worlds.{CountsFailures, LinksAfter, OthersStay, Shows, StopsBy, WorldState, outcome_of}
 use Rattle.resp_wire.specs.declared.end.End.{End}

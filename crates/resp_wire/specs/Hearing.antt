@@ -14,23 +14,23 @@ use Rattle.resp_client.specs.Hearing.{HasTaken}
 use Rattle.resp_client.specs.declared.client.Client.{Client}
 use Rattle.resp_client.specs.declared.heard.What.{What}
 use Rattle.resp_client.specs.declared.heard.What.TheVariants.{Reply, Push, Shown, More}
-use Rattle.resp_wire.specs.declared.asked.Asked.{Asked}
+use Rattle.resp_wire.specs.declared.asked.Responses.{Responses}
 
 -- the replies that were received, with their numbers
-abbrev pub replies_in : Asked → List (ℕ × Datum)
+abbrev pub replies_in : Responses → List (ℕ × Datum)
 replies_in asked = map (λ (reply : ℕ × Value). (reply.0, datum_of reply.1)) asked.replies.items
 
 -- the pushes that were received
-abbrev pub pushes_in : Asked → List Datum
+abbrev pub pushes_in : Responses → List Datum
 pushes_in asked = map (λ (items : Members). datum_of (value.Push items)) asked.pushes.items
 
 -- these replies and pushes were added
-abbrev pub Adds : Asked → Asked → List (ℕ × Datum) → List Datum → Type 0
+abbrev pub Adds : Responses → Responses → List (ℕ × Datum) → List Datum → Type 0
 Adds before after replies pushes = (replies_in after ≡ replies_in before ++ replies) ×
     (pushes_in after ≡ pushes_in before ++ pushes)
 
 -- the reply or push was added
-abbrev pub AddsHeard : Asked → Asked → What → Type 0
+abbrev pub AddsHeard : Responses → Responses → What → Type 0
 AddsHeard before after (Reply number x) = Adds before after ((number, datum_of x) ∷ []) []
 AddsHeard before after (Push items) = Adds before after [] (datum_of (value.Push items) ∷ [])
 AddsHeard before after Shown = Adds before after [] []
@@ -45,7 +45,7 @@ pub record ReadsFrom (s : ClientState) (values : List Datum) (came : List ℕ) (
   pub whole : came ≡ text ++ rest
 
 -- All bytes received are read: the values are added, and the client has read the rest.
-pub record HearsAll (s : ClientState) (c : Client) (before after : Asked) (came : List ℕ) : Type 0 where
+pub record HearsAll (s : ClientState) (c : Client) (before after : Responses) (came : List ℕ) : Type 0 where
   pub values : List Datum
   pub rest : List ℕ
   pub reads : ReadsFrom s values came (state_of c).waiting rest
@@ -56,19 +56,19 @@ pub record HearsAll (s : ClientState) (c : Client) (before after : Asked) (came 
   pub same_out : (state_of c).out ≡ s.out
 
 -- after these bytes a command still waits
-pub record StillWaits (s : ClientState) (before : Asked) (came : List ℕ) : Type 0 where
+pub record StillWaits (s : ClientState) (before : Responses) (came : List ℕ) : Type 0 where
   pub between : Client
-  pub heard : Asked
+  pub heard : Responses
   pub hears : HearsAll s between before heard came
   pub waits : (state_of between).waiting.asks ≢ []
 
 -- Each piece was read only while a command waited after all bytes received before it.
-abbrev pub WaitsBefore : ClientState → Asked → List ℕ → List (List ℕ) → Type 0
+abbrev pub WaitsBefore : ClientState → Responses → List ℕ → List (List ℕ) → Type 0
 WaitsBefore s before front pieces = (k : ℕ) → k < length pieces →
     StillWaits s before (front ++ concat (take k pieces))
 
 -- An allocation failed, and the first of the values are added.
-pub record HearsSome (s : ClientState) (before after : Asked) (came : List ℕ) : Type 0 where
+pub record HearsSome (s : ClientState) (before after : Responses) (came : List ℕ) : Type 0 where
   pub values : List Datum
   pub waiting : Waiting
   pub rest : List ℕ
@@ -76,12 +76,12 @@ pub record HearsSome (s : ClientState) (before after : Asked) (came : List ℕ) 
   pub heard : Adds before after (numbered_replies (next_number s) values) (pushes_of values)
 
 -- A byte received is rejected, and the values before it are added.
-pub record HearsFault (s : ClientState) (before after : Asked) (came : List ℕ) (fault : Fault) : Type 0 where
+pub record HearsFault (s : ClientState) (before after : Responses) (came : List ℕ) (fault : Fault) : Type 0 where
   pub some : HearsSome s before after came
   pub fault_of : ClientFault s.limits some.waiting some.rest fault.cause fault.at
 
 -- The same. The client's commands up to the last reply before the rejected byte are answered, and the others still wait.
-pub record StopsAtFault (s : ClientState) (c : Client) (before after : Asked) (came : List ℕ) (fault : Fault) : Type 0 where
+pub record StopsAtFault (s : ClientState) (c : Client) (before after : Responses) (came : List ℕ) (fault : Fault) : Type 0 where
   pub hears : HearsFault s before after came fault
   pub waits : (state_of c).waiting ≡ hears.some.waiting
   pub answered : (state_of c).answered ≡ s.answered + length (replies_of hears.some.values)

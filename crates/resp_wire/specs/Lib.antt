@@ -5,6 +5,8 @@ pub mod Stops
 pub mod Asking
 pub mod Asks
 pub mod Serving
+pub mod Visits
+pub mod HubSessions
 pub mod Links
 pub mod TcpLinks
 pub mod Carrying

@@ -1,9 +1,9 @@
 -- The errors of links.
 use Rattle.std.specs.Prelude.{◌≡◌, ◌⊎◌, ℕ, List, ◌++◌, Bool, true, false, Option, None, Some, Result, Ok, Err}
-use Rattle.resp_value.specs.Devices.{HasRisen}
+use Rattle.resp_io.specs.Devices.{HasRisen}
 use Rattle.resp_value.specs.declared.cause.Cause.{Cause}
 use Rattle.resp_value.specs.declared.cause.Cause.TheVariants.{Read, Write, TooManyTurns}
-use Rattle.resp_turns.specs.Turns.{TellsEnd}
+use Rattle.resp_io.specs.Turns.{TellsEnd}
 use Rattle.resp_wire.specs.declared.link.Direction.{Direction}
 use Rattle.resp_wire.specs.declared.link.Direction.TheVariants.{ToServer, ToClient}
 use Rattle.resp_wire.specs.declared.link.LinkFault.{LinkFault}

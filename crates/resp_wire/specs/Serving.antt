@@ -1,21 +1,18 @@
 -- The results of a server's end, in terms of its hub and of the bytes written.
-use Rattle.std.specs.Prelude.{◌≡◌, ◌⊎◌, ℕ, ◌+◌, ◌-◌, ◌<◌, ◌≤◌, ◌^◌, Bool, true, false, List, [], ◌++◌, length, take, drop, Option, Some, None, Result, Ok, Err, IfSome, IfOk, IfErr, IsErrOf, OnOk}
+use Rattle.std.specs.Prelude.{◌≡◌, ◌⊎◌, ℕ, ◌+◌, ◌<◌, true, false, List, [], ◌++◌, length, take, Option, Some, None, Result, Ok, Err, IfSome, IfErr, OnOk}
 use Rattle.std.specs.List.{concat}
-use Rattle.resp_value.specs.Devices.{Appends, HasRisen, failures_after}
+use Rattle.resp_io.specs.Devices.{Appends, HasRisen}
 use Rattle.resp_server.specs.Handling.{HasAnswered, HasCutShort, WhereOpen}
 use Rattle.resp_server.specs.Hubs.{HubState, Seat, WaitsAtMost, seat_at}
 use Rattle.resp_server.specs.Reading.{HasReadFront}
 use Rattle.resp_server.specs.Sending.{HasSent, HasSentPart, IsClosing}
-use Rattle.resp_turns.specs.Pieces.{ReadsPieces}
-use Rattle.resp_turns.specs.Turns.{Spends, TellsEnd, stopped_by}
-use Rattle.resp_turns.specs.declared.halt.Halt.{Halt}
-use Rattle.resp_turns.specs.declared.halt.Halt.TheVariants.{Failed, NoTurn}
+use Rattle.resp_io.specs.Pieces.{ReadsPieces}
+use Rattle.resp_io.specs.Turns.{TellsEnd}
+use Rattle.resp_wire.specs.Visits.{MayLeave, ends_by_read}
 use Rattle.resp_wire.specs.declared.error.ServeError.{ServeError}
 use Rattle.resp_wire.specs.declared.error.ServeError.TheVariants.{NoSession, OutOfMemory, Read, Write, TooManyTurns}
-use Rattle.resp_wire.specs.declared.serve.Answered.{Answered}
 use Rattle.resp_wire.specs.declared.serve.Served.{Served}
 use Rattle.resp_wire.specs.declared.serve.Served.TheVariants.{Ended, Closed}
-use Rattle.resp_wire.specs.declared.serve.Visit.{Visit}
 
 -- the session is open, and has read a front of a value
 pub record IsOpen (hub : HubState) (id : ℕ) : Type 0 where
@@ -85,32 +82,6 @@ FailsServing hub id writes writes' reads reads' Read = HasRisen reads reads'
 FailsServing hub id writes writes' reads reads' Write = HasRisen writes writes'
 FailsServing hub id writes writes' reads reads' _ = Unit {0}
 
--- whether the call stopped because a write failed
-abbrev pub is_of_writer : ServeError → Bool
-is_of_writer Write = true
-is_of_writer _ = false
-
--- whether the call stopped because a read failed
-abbrev pub is_of_reader : ServeError → Bool
-is_of_reader Read = true
-is_of_reader _ = false
-
--- whether the last read returned nothing
-abbrev pub ends_by_read : Result Served ServeError → Bool
-ends_by_read (Ok Ended) = true
-ends_by_read (Ok Closed) = false
-ends_by_read (Err error) = is_of_reader error
-
--- the bytes of the buffer that were read and not given to the session
-abbrev pub rest_in : Visit → List ℕ → List ℕ
-rest_in visit bytes = take (visit.rest.end - visit.rest.start) (drop visit.rest.start bytes)
-
--- bytes may be left only after a failed write, and where no turn is left
-abbrev pub MayLeave : Result Served ServeError → List ℕ → Type 0
-MayLeave (Err Write) rest = Unit {0}
-MayLeave (Err TooManyTurns) rest = Unit {0}
-MayLeave _ rest = rest ≡ []
-
 -- The bytes received are pieces of at most `most` bytes, each from one read, and the session was given all of them but
 -- the rest. Before each read, all replies to the bytes received before were written. The bytes written and the bytes
 -- that still wait, joined, are the bytes that waited before and the response to the bytes read before of a value
@@ -150,57 +121,3 @@ pub record StopsOverfull (most : ℕ) (old new : HubState) (id : ℕ) (s : Seat)
 abbrev pub LeavesOverfull : {W : Type 0} → ℕ → (W → Option (List ℕ)) → W → W → HubState → HubState → ℕ → List ℕ → Type 0
 LeavesOverfull most written writer writer' old new id rest = (rest ≡ [] → ⊥) →
     WhereOpen old id (λ s front. StopsOverfull most old new id s front (written writer) (written writer'))
-
--- the error of a call of which a read moved no byte
-abbrev pub read_error : Halt → ServeError
-read_error Failed = Read
-read_error NoTurn = TooManyTurns
-
--- why answering stops: memory was out, or a write stopped
-abbrev pub StopsAnswering : ℕ → ℕ → ℕ → ServeError → Type 0
-StopsAnswering failures failures' left OutOfMemory = Unit {0}
-StopsAnswering failures failures' left Write = HasRisen failures failures'
-StopsAnswering failures failures' left TooManyTurns = left ≡ 0
-StopsAnswering failures failures' left _ = ⊥
-
--- what a session was given of a piece is answered, and the replies are written
-abbrev pub AnswersGiven : HubState → HubState → ℕ → List ℕ → Option (List ℕ) → Option (List ℕ) → Answered → Type 0
-AnswersGiven old new id piece held held' answered = WhereOpen old id (λ s front.
-    OnOk answered.end (Serves old new id s (front ++ take answered.used piece) held held' []) ×
-    IfErr answered.end (StopsServing old new id s front (take answered.used piece) held held'))
-
--- The state after an answer: whether the session is closing, that no reply waits, or why a write stopped.
-pub record EndsAnswering (new : HubState) (id fails fails' left : ℕ) (end : Result Bool ServeError) : Type 0 where
-  pub closing : IfOk end (IsClosing new id)
-  pub is_open : IfOk end (λ closing. closing ≡ false → IsOpen new id)
-  pub sent : OnOk end (WaitsAtMost 0 new id)
-  pub failures : fails' ≡ failures_after (stopped_by is_of_writer end) fails
-  pub no_read : stopped_by is_of_reader end ≡ false
-  pub refusal : IfErr end (StopsAnswering fails fails' left)
-
--- The session was given the first bytes of a piece, of which `used` is the number, and answered them. `most` bytes and
--- one reply wait at most, if no more waited before.
-pub record AnswersPiece {W : Type 0} (written : W → Option (List ℕ)) (calls failures : W → ℕ) (most : ℕ)
-    (old new : HubState) (id : ℕ) (writer writer' : W) (piece : List ℕ) (turns turns' : ℕ) (answered : Answered) :
-    Type 0 where
-  pub within : answered.used ≤ length piece
-  pub given : AnswersGiven old new id piece (written writer) (written writer') answered
-  pub whole : most ≡ 2 ^ 64 - 1 → answered.used ≡ length piece
-  -- when out of memory, nothing is left of the piece
-  pub no_memory : IsErrOf answered.end OutOfMemory → answered.used ≡ length piece
-  pub ends : EndsAnswering new id (failures writer) (failures writer') turns' answered.end
-  pub same_limits : new.limits ≡ old.limits
-  pub bounded : WaitsAtMost (most + old.limits.total) old id → WaitsAtMost (most + old.limits.total) new id
-  pub spends : Spends (calls writer) (calls writer') turns turns'
-
--- The parts of a piece before a part were answered and their replies were written, and this part overfilled the session.
-pub record LeavesRest (most : ℕ) (old new : HubState) (id : ℕ) (piece : List ℕ) (held held' : Option (List ℕ)) :
-    Type 0 where
-  pub count : ℕ
-  pub size : ℕ
-  pub between : HubState
-  pub held_between : Option (List ℕ)
-  -- no part came before, or the parts before it were answered
-  pub before : ((between ≡ old) × (held_between ≡ held)) ⊎
-      WhereOpen old id (λ s front. Serves old between id s (front ++ take count piece) held held_between [])
-  pub overfills : Overfills most between new id (take size (drop count piece)) held_between held'

@@ -1,6 +1,6 @@
 -- Why a client's end stops, and the replies and pushes received by then.
 use Rattle.std.specs.Prelude.{◌≡◌, ◌≢◌, ◌<◌, ◌≤◌, ℕ, Bool, true, false, List, [], ◌∷◌, length, take, drop, Option}
-use Rattle.resp_value.specs.Devices.{HasRisen}
+use Rattle.resp_io.specs.Devices.{HasRisen}
 use Rattle.resp_value.specs.declared.cause.Cause.{Cause}
 use Rattle.resp_value.specs.declared.cause.Cause.TheVariants as cause
 use Rattle.resp_scan.specs.declared.event as event
@@ -12,8 +12,8 @@ use Rattle.resp_client.specs.declared.send_error.SendError.{SendError}
 use Rattle.resp_client.specs.declared.send_error.SendError.TheVariants as send
 use Rattle.resp_wire.specs.Hearing.{HearsAll, HearsSome, StopsAtFault}
 use Rattle.resp_wire.specs.Requests.{MayAllBeSent, request_of, with_requests}
-use Rattle.resp_turns.specs.Turns.{TellsEnd}
-use Rattle.resp_wire.specs.declared.asked.Asked.{Asked}
+use Rattle.resp_io.specs.Turns.{TellsEnd}
+use Rattle.resp_wire.specs.declared.asked.Responses.{Responses}
 use Rattle.resp_wire.specs.declared.asked.Request.{Request}
 use Rattle.resp_wire.specs.declared.error.AskError.{AskError}
 use Rattle.resp_wire.specs.declared.error.AskError.TheVariants.{Ended, Fault, OutOfMemory, Read, Refused, TooManyTurns, Write}
@@ -84,7 +84,7 @@ FailsWriting failures failures' waits _ = ⊥
 
 -- The replies and pushes received of all bytes that were read, when a call stopped: if no byte was rejected and no
 -- allocation failed, they are all of them.
-abbrev pub StopsListening : ClientState → Client → Asked → Asked → List ℕ → AskError → Type 0
+abbrev pub StopsListening : ClientState → Client → Responses → Responses → List ℕ → AskError → Type 0
 StopsListening s c before after came (Fault fault) = StopsAtFault s c before after came fault
 StopsListening s c before after came OutOfMemory = HearsSome s before after came
 StopsListening s c before after came Read = HearsAll s c before after came

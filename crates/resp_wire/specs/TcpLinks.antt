@@ -1,5 +1,5 @@
 -- The ends of a link over TCP.
-use Rattle.resp_value.specs.Devices.{DeviceState, HasRisen}
+use Rattle.resp_io.specs.Devices.{DeviceState, HasRisen}
 use Rattle.resp_wire.specs.declared.link.Direction.{Direction}
 use Rattle.resp_wire.specs.declared.link.Direction.TheVariants.{ToServer, ToClient}
 use Rattle.resp_wire.specs.declared.link.tcp.TcpLink.{TcpLink}

@@ -4,7 +4,7 @@ use Rattle.std.specs.List.{AllByRecursion, slice_get}
 use Rattle.resp_value.specs.Bounds.{Bounds, AreBounds}
 use Rattle.resp_value.specs.Commands.{words_of}
 use Rattle.resp_value.specs.Data.{Datum}
-use Rattle.resp_value.specs.Devices.{HasRisen, count_after}
+use Rattle.resp_io.specs.Devices.{HasRisen, count_after}
 use Rattle.resp_value.specs.Values.{datum_of, list_of}
 use Rattle.resp_value.specs.declared.cause.Cause.{Cause}
 use Rattle.resp_value.specs.declared.cause.Cause.TheVariants.{OutOfMemory}

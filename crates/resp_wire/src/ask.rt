@@ -5,23 +5,23 @@ ghost use Rattle.resp_client.specs.Clients.{state_of, with_request, without_fron
 ghost use Rattle.resp_client.specs.Sending.{AnswersRequest};
 ghost use Rattle.resp_wire.specs.Requests.{request_of};
 ghost use Rattle.resp_client.specs.Hearing.{KeepsReading, WhereTaken};
-ghost use Rattle.resp_value.specs.Devices.{Appends, failures_after};
+ghost use Rattle.resp_io.specs.Devices.{Appends, failures_after};
 ghost use Rattle.resp_wire.specs.Hearing.{HearsAll, WaitsBefore};
 ghost use Rattle.resp_wire.specs.Asking.{SendsAll, sent};
 ghost use Rattle.resp_wire.specs.Asks.{HearsPieces, StopsAsking};
 ghost use Rattle.resp_wire.specs.Stops.{FailsReading, FailsWriting, KeepsFault, QueuesFirst, StopsListening, StopsQueueing, error_at, is_of_last_read, is_of_reader, is_of_writer};
-ghost use Rattle.resp_turns.specs.Pieces.{ReadsPieces};
-ghost use Rattle.resp_turns.specs.Turns.{Spends, SpendsAtMost, stopped_by};
+ghost use Rattle.resp_io.specs.Pieces.{ReadsPieces};
+ghost use Rattle.resp_io.specs.Turns.{Spends, SpendsAtMost, stopped_by};
 ghost use Rattle.std.specs.List.{concat};
 
-use crate::asked::{Asked, Request};
+use crate::asked::{Request, Responses};
 use crate::error::AskError;
 use crate::hear::hear_piece;
 use crate::pieces::PIECE;
 use resp_client::{Client, SendError};
+use resp_io::device::{Sink, Source};
+use resp_io::{Halt, read_some, write_text};
 use resp_session::laws;
-use resp_turns::{Halt, read_some, write_text};
-use resp_value::device::{Sink, Source};
 
 /// Queues the requests, writes all waiting bytes, and reads until no command waits for a reply. The
 /// replies and pushes of each piece that was read are added to `heard`, even if the call fails.
@@ -50,7 +50,7 @@ use resp_value::device::{Sink, Source};
 /// let stream = TcpStream::connect(net, ("127.0.0.1", port))?;
 /// stream.set_nodelay(true)?;
 /// let mut client = Client::new(alloc, &Limits::standard());
-/// let mut received = Asked::new(alloc);
+/// let mut received = Responses::new(alloc);
 /// ask(
 ///     &mut Device::new(&stream),
 ///     &mut Device::new(&stream),
@@ -67,7 +67,7 @@ use resp_value::device::{Sink, Source};
 /// let mut reader = MemorySource::new(b"+OK\r\n:1\r\n", 4);
 /// let mut writer = MemorySink::new(alloc, 16, 256)?;
 /// let mut client = Client::new(alloc, &Limits::standard());
-/// let mut received = Asked::new(alloc);
+/// let mut received = Responses::new(alloc);
 /// ask(&mut reader, &mut writer, &mut client, requests, &mut received, 100)?;
 /// for (number, value) in received.replies.iter() {
 ///     println!(rt; "reply {number}: {value:?}")?;
@@ -78,7 +78,7 @@ pub fn ask<R: Source, W: Sink>(
     writer: &mut W,
     client: &mut Client,
     requests: &[Request],
-    heard: &mut Asked,
+    heard: &mut Responses,
     turns: u64,
 ) -> Result<(), AskError>
     // All requests and the bytes that waited before were written, and all replies received were
@@ -126,7 +126,7 @@ pub fn ask_with<R: Source, W: Sink>(
     writer: &mut W,
     client: &mut Client,
     requests: &[Request],
-    heard: &mut Asked,
+    heard: &mut Responses,
     turns: u64,
     buffer: &mut [u8],
 ) -> Result<(), AskError>
@@ -238,7 +238,7 @@ fn send_all<W: Sink>(writer: &mut W, client: &mut Client, turns: &mut u64) -> Re
 fn hear_all<R: Source>(
     reader: &mut R,
     client: &mut Client,
-    heard: &mut Asked,
+    heard: &mut Responses,
     turns: &mut u64,
     buffer: &mut [u8],
 ) -> Result<(), AskError>

@@ -19,22 +19,22 @@ pub enum Request {
 
 /// The replies and the pushes that a client has received, each in order.
 #[derive(Debug, PartialEq, Eq, Drop)]
-pub struct Asked {
+pub struct Responses {
     /// The replies, each with the number of its command, from 1.
     pub replies: Vec<(u64, Value)>,
     /// The members of each push.
     pub pushes: Vec<Members>,
 }
 
-impl Asked {
+impl Responses {
     ghost use Rattle.resp_wire.specs.Hearing.{AddsHeard, pushes_in, replies_in};
 
-    /// Makes an empty list. Does not allocate.
-    pub fn new(alloc: Global) -> Asked
+    /// Creates an empty list. Does not allocate.
+    pub fn new(alloc: Global) -> Responses
         ensures replies { replies_in result ≡ [] }
         ensures pushes { pushes_in result ≡ [] }
     {
-        Asked {
+        Responses {
             replies: Vec::new(alloc),
             pushes: Vec::new(alloc),
         }

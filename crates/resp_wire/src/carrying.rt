@@ -10,9 +10,9 @@ ghost use Rattle.resp_server.specs.Hubs.{Seat, seat_at, seated};
 ghost use Rattle.resp_wire.specs.Carrying.{HasBrought, HasClosed, HearsOn, LinkGoesOn, MeetsFault, StopsCarrying};
 ghost use Rattle.resp_wire.specs.Hearing.{HearsAll};
 ghost use Rattle.resp_wire.specs.Links.{Carries, is_of_link};
-ghost use Rattle.resp_turns.specs.Turns.{stopped_by};
+ghost use Rattle.resp_io.specs.Turns.{stopped_by};
 
-use crate::asked::Asked;
+use crate::asked::Responses;
 use crate::error::AskError;
 use crate::hear::hear_piece;
 use crate::link::{Direction, Link};
@@ -78,7 +78,7 @@ pub(crate) fn carry_to_client<L: Link, S: BuildHasher>(
     client: &mut Client,
     hub: &mut Hub<S>,
     id: u64,
-    heard: &mut Asked,
+    heard: &mut Responses,
     count: u64,
 ) -> Result<(), Cause>
     ensures heard { L.is_honest link.old → IfSome (seat_at hub.old id) (λ (s : Seat).
@@ -117,7 +117,7 @@ pub(crate) fn carry_to_client<L: Link, S: BuildHasher>(
     Ok(())
 }
 
-/// Gives a session the first bytes that wait in its client, as many as there is room for.
+/// Carries the first bytes that wait in a client to its session, as many as `room` has.
 fn give<L: Link, S: BuildHasher>(
     link: &mut L,
     client: &mut Client,
@@ -182,7 +182,7 @@ fn show<L: Link, S: BuildHasher>(
     client: &mut Client,
     hub: &mut Hub<S>,
     id: u64,
-    heard: &mut Asked,
+    heard: &mut Responses,
     room: &mut [u8],
 ) -> Result<(), Cause>
     requires short { length room.old ≤ 1_024 }

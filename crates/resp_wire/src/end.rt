@@ -6,7 +6,7 @@ ghost use Rattle.resp_session.specs.Requests as session;
 ghost use Rattle.resp_value.specs.declared.value.Value.{Value};
 ghost use Rattle.resp_wire.specs.Ends.{outcome_of_send};
 
-use crate::asked::{Asked, Request};
+use crate::asked::{Request, Responses};
 use crate::event::Outcome;
 use resp_client::{Client, SendError};
 use resp_value::cause::Cause;
@@ -32,7 +32,7 @@ impl End {
     ghost use Rattle.resp_client.specs.Sending.{MayBeSent};
     ghost use Rattle.resp_wire.specs.Ends.{IsNew, KeepsHeard, TakesRequest};
 
-    /// Makes a client without requests. Does not allocate.
+    /// Creates a client without requests. Does not allocate.
     pub(crate) fn new(alloc: Global, limits: &Limits) -> End
         ensures { IsNew limits.now result }
     {
@@ -84,12 +84,12 @@ impl End {
     }
 
     /// Stores the replies, without their numbers, and the pushes received.
-    pub(crate) fn keep(&mut self, heard: Asked) -> Result<Outcome, Cause>
+    pub(crate) fn keep(&mut self, heard: Responses) -> Result<Outcome, Cause>
         ensures kept { OnOk result (KeepsHeard self.old self.new heard) }
         ensures done { IfOk result (λ outcome. outcome ≡ Outcome.Done) }
         ensures memory { IfErr result (λ cause. cause ≡ Cause.OutOfMemory) }
     {
-        let Asked {
+        let Responses {
             replies,
             mut pushes,
         } = heard;

@@ -9,7 +9,7 @@ ghost use Rattle.resp_wire.specs.Hearing.{HearsAll};
 ghost use Rattle.resp_wire.specs.Links.{is_of_link};
 ghost use Rattle.resp_wire.specs.Stops.{KeepsFault, StopsClient, StopsListening, error_by};
 
-use crate::asked::Asked;
+use crate::asked::Responses;
 use crate::error::AskError;
 use crate::pieces::beyond;
 use resp_client::Client;
@@ -34,7 +34,7 @@ fn stop(fault: Fault) -> AskError
 pub(crate) fn hear_piece(
     client: &mut Client,
     piece: &[u8],
-    heard: &mut Asked,
+    heard: &mut Responses,
 ) -> Result<(), AskError>
     ensures heard { WhereTaken client.old (λ front. OnOk result
         (HearsAll (state_of client.old) client.new heard.old heard.new (front ++ piece.now))) }

@@ -1,7 +1,7 @@
 //! Links, which carry bytes between a client and its session.
 
 ghost use Rattle.std.specs.Prelude.{◌≡◌, ◌≤◌, ◌+◌, ℕ, Option, length, is_err, true, IfErr, OnOk};
-ghost use Rattle.resp_value.specs.Devices.{failures_after};
+ghost use Rattle.resp_io.specs.Devices.{failures_after};
 ghost use Rattle.resp_wire.specs.Links.{Carries, Traffic, is_of_link};
 
 use resp_value::cause::Cause;
@@ -35,12 +35,11 @@ pub type Carried = Result<(), LinkFault>;
 
 /// A connection between a client and its session that carries bytes in both directions.
 pub trait Link: Drop {
-    /// Holds if the link delivers the bytes that it is given. If it does not hold, the link states
-    /// nothing about its bytes.
+    /// Holds if the link delivers the bytes that it is given. If it does not hold, the link
+    /// promises nothing about its bytes.
     ghost is_honest: { Self → Type 0 };
 
-    /// The bytes that were carried in each direction, or `None` if the link states nothing about
-    /// them.
+    /// The bytes that were carried in each direction, or `None` if the link does not say.
     ghost traffic: { Self → Option Traffic };
 
     /// The number of calls that failed.

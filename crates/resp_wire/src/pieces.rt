@@ -2,7 +2,7 @@
 
 ghost use Rattle.std.specs.Prelude.{◌≡◌, ◌≤◌, drop, length};
 
-/// The most bytes of one read, if the caller lends no buffer.
+/// The maximum number of bytes of one read, if the caller lends no buffer.
 pub(crate) const PIECE: usize = 4_096;
 
 /// Returns the bytes from this index on.

@@ -1,19 +1,19 @@
 //! The server's end of a connection.
 
-ghost use Rattle.std.specs.Prelude.{◌≡◌, ◌+◌, ◌-◌, ◌<◌, ◌≤◌, ◌^◌, [], length, take, true, false, None, Some, Err, IfSome, IfOk, IfErr, IsErrOf, OnOk, OnErr};
+ghost use Rattle.std.specs.Prelude.{◌≡◌, ◌+◌, ◌-◌, ◌<◌, ◌≤◌, ◌^◌, [], length, take, true, false, None, Err, IfSome, IfOk, IfErr, IsErrOf, OnErr, OnOk};
 ghost use Rattle.resp_server.specs.Hubs.{Seat, WaitsAtMost, seat_at};
-ghost use Rattle.resp_server.specs.Handling.{HasAnswered, WhereOpen};
-ghost use Rattle.resp_server.specs.Sending.{HasSent, HasSentPart, IsClosing};
-ghost use Rattle.resp_value.specs.Devices.{failures_after};
-ghost use Rattle.resp_wire.specs.Serving.{AnswersPiece, EndsBy, FailsServing, IsOpen, LeavesOverfull, LeavesRest, Overfills, ServesClosing, ServesPieces, StopsAnswering, is_of_reader, is_of_writer, read_error, rest_in};
-ghost use Rattle.resp_turns.specs.Turns.{Spends, SpendsAtMost, SpendsTurns, has_failed, stopped_by};
+ghost use Rattle.resp_io.specs.Devices.{failures_after};
+ghost use Rattle.resp_io.specs.Turns.{Spends, SpendsAtMost, has_failed, stopped_by};
+ghost use Rattle.resp_wire.specs.Serving as session;
+ghost use Rattle.resp_wire.specs.Serving.{EndsBy, FailsServing, LeavesOverfull, ServesClosing};
+ghost use Rattle.resp_wire.specs.Visits.{Answers, EndsVisit, FailsVisit, GoesOn, ServesPieces, StaysAfter, StopsAnswering, StopsOverfull, WritesClosing, is_of_reader, is_of_writer, read_error, rest_in, write_error};
 
 use crate::error::ServeError;
 use crate::pieces::{PIECE, beyond};
+use crate::sessions::Sessions;
+use resp_io::device::{Sink, Source};
+use resp_io::{Halt, read_some};
 use resp_server::Hub;
-use resp_session::laws;
-use resp_turns::{Halt, read_some};
-use resp_value::device::{Sink, Source};
 use std::hash::BuildHasher;
 use std::ops::Range;
 
@@ -26,8 +26,8 @@ pub enum Served {
     Closed,
 }
 
-/// Serves a session: writes the bytes that wait, reads a piece of at most 4,096 bytes, and gives
-/// it to the session, until the input ends or the session is closing. Nothing is read of a session
+/// Serves a session: writes the bytes that wait, reads a piece of at most 4,096 bytes, and gives it
+/// to the session, until the input ends or the session is closing. Nothing is read from a session
 /// that is closing.
 ///
 /// Each read and each write is a turn, and the call makes at most `turns` of them.
@@ -86,7 +86,7 @@ pub fn serve<R: Source, W: Sink, S: BuildHasher>(
     // all replies to the bytes received before were written. The bytes written and the bytes that
     // still wait, joined, are the bytes that waited before and the response to the bytes read before
     // of a value together with the bytes received. The hub is in the state after that response.
-    ensures served { ServesPieces 4096 W.written R.remaining R.calls R.failures writer.old
+    ensures served { session.ServesPieces 4096 W.written R.remaining R.calls R.failures writer.old
         writer.new reader.old reader.new hub.old hub.new id result [] }
     ensures end { IfOk result (EndsBy hub.new id (R.remaining reader.old)
         (R.remaining reader.new)) }
@@ -144,7 +144,7 @@ pub fn serve_with<R: Source, W: Sink, S: BuildHasher>(
     requires { 0 < length buffer.now }
     // As `serve`, except that the pieces have at most as many bytes as the buffer, and that the
     // session was not given the rest.
-    ensures served { ServesPieces (length buffer.old) W.written R.remaining R.calls R.failures
+    ensures served { session.ServesPieces (length buffer.old) W.written R.remaining R.calls R.failures
         writer.old writer.new reader.old reader.new hub.old hub.new id result.end
         (rest_in result buffer.new) }
     ensures end { IfOk result.end (EndsBy hub.new id (R.remaining reader.old)
@@ -174,91 +174,76 @@ pub fn serve_with<R: Source, W: Sink, S: BuildHasher>(
     ensures turns { SpendsAtMost (W.calls writer.old) (W.calls writer.new) (R.calls reader.old)
         (R.calls reader.new) turns (IsErrOf result.end ServeError.TooManyTurns) }
 {
-    let Ok(closing) = hub.is_closing(id) else {
-        return Visit {
-            end: Err(ServeError::NoSession),
-            rest: 0..0,
-        };
-    };
-    let mut left = turns;
-    if !closing {
-        return serve_open(reader, writer, hub, id, &mut left, buffer, held);
-    }
-    match write_out(writer, hub, id, &mut left) {
-        Ok(_) => Visit {
-            end: Ok(Served::Closed),
-            rest: 0..0,
-        },
-        Err(error) => Visit {
-            end: Err(error),
-            rest: 0..0,
-        },
-    }
+    let mut client = id;
+    serve_client(reader, writer, hub, &mut client, turns, buffer, held)
 }
 
-/// Serves a session that is open.
-fn serve_open<R: Source, W: Sink, S: BuildHasher>(
+/// Serves a client of any server, as [`serve_with`] serves a session of a hub.
+///
+/// # Errors
+///
+/// `end` is an error as [`serve`] returns it.
+pub fn serve_client<R: Source, W: Sink, C, T: Sessions<C>>(
     reader: &mut R,
     writer: &mut W,
-    hub: &mut Hub<S>,
-    id: u64,
-    turns: &mut u64,
+    sessions: &mut T,
+    client: &mut C,
+    turns: u64,
     buffer: &mut [u8],
     held: usize,
 ) -> Visit
-    requires room { 0 < length buffer.now }
-    requires is_open { IsOpen hub.old id }
-    requires waiting { WhereOpen hub.old id (λ s front.
-        HasAnswered hub.old hub.old id s front 0) }
+    // The bytes received are pieces, each from one read, and the server was given all of them but the
+    // rest. Before each read, all replies to the bytes received before were written.
     ensures served { ServesPieces (length buffer.old) W.written R.remaining R.calls R.failures
-        writer.old writer.new reader.old reader.new hub.old hub.new id result.end
-        (rest_in result buffer.new) }
-    ensures end { IfOk result.end (EndsBy hub.new id (R.remaining reader.old)
-        (R.remaining reader.new)) }
+        writer.old writer.new reader.old reader.new
+        (T.has_served held sessions.old client.old) (T.has_cut_short held sessions.old client.old)
+        T.waiting T.closing sessions.new client.new result.end (rest_in result buffer.new) }
+    ensures ends { 0 < length buffer.old → EndsVisit (R.remaining reader.old)
+        (R.remaining reader.new) (T.waiting sessions.new client.new)
+        (T.closing sessions.new client.new) result.end }
     ensures whole { held ≡ 2 ^ 64 - 1 → rest_in result buffer.new ≡ [] }
-    ensures full { LeavesOverfull held W.written writer.old writer.new hub.old hub.new id
-        (rest_in result buffer.new) }
+    // Bytes are left only if more than `held` bytes waited and could not all be written.
+    ensures full { (rest_in result buffer.new ≡ [] → ⊥) → StopsOverfull held
+        (W.written writer.old) (W.written writer.new) (T.has_served held sessions.old client.old)
+        (T.takes held) T.writes T.waiting sessions.new client.new }
     ensures in_buffer { (result.rest.start ≤ result.rest.end) ×
         (result.rest.end ≤ length buffer.new) }
-    ensures bounded { WaitsAtMost (held + hub.old.limits.total) hub.old id →
-        WaitsAtMost (held + hub.old.limits.total) hub.new id }
-    ensures refusal { IfErr result.end (FailsServing hub.old id (W.failures writer.old)
-        (W.failures writer.new) (R.failures reader.old) (R.failures reader.new)) }
+    // Nothing is read of a client that is closing, and its waiting bytes are written.
+    ensures closing { T.has sessions.old client.old ≡ true →
+        T.closing sessions.old client.old ≡ true → (reader.new ≡ reader.old) ×
+        WritesClosing T.writes (W.written writer.old) (W.written writer.new) sessions.old
+        client.old sessions.new client.new result.end }
+    ensures refusal { IfErr result.end (FailsVisit (T.has sessions.old client.old)
+        (W.failures writer.old) (W.failures writer.new) (R.failures reader.old)
+        (R.failures reader.new)) }
+    // A device fails once if the error says so, and otherwise never.
     ensures write_failures { W.failures writer.new ≡
         failures_after (stopped_by is_of_writer result.end) (W.failures writer.old) }
     ensures read_failures { R.failures reader.new ≡
         failures_after (stopped_by is_of_reader result.end) (R.failures reader.old) }
-    ensures turns { SpendsTurns (W.calls writer.old) (W.calls writer.new)
-        (R.calls reader.old) (R.calls reader.new) turns.old turns.new }
-    ensures no_turn_left { IsErrOf result.end ServeError.TooManyTurns → turns.new ≡ 0 }
+    ensures nobody { T.has sessions.old client.old ≡ false →
+        (result.end ≡ Err ServeError.NoSession) × (sessions.new ≡ sessions.old) ×
+        (client.new ≡ client.old) × (reader.new ≡ reader.old) × (writer.new ≡ writer.old) }
+    ensures turns { SpendsAtMost (W.calls writer.old) (W.calls writer.new) (R.calls reader.old)
+        (R.calls reader.new) turns (IsErrOf result.end ServeError.TooManyTurns) }
 {
-    laws::answers_go_on();
-    laws::answers_are_added();
-    if let Err(error) = write_out(writer, hub, id, turns) {
-        return Visit {
-            end: Err(error),
-            rest: 0..0,
-        };
-    }
-    loop {
-        let count = match read_some(reader, buffer, turns) {
-            Ok(0) => return Visit {
-                end: Ok(Served::Ended),
-                rest: 0..0,
-            },
+    let Some(_) = sessions.find(client) else {
+        return ended(Err(ServeError::NoSession));
+    };
+    let mut left = turns;
+    let mut closing = match sessions.send(client, writer, &mut left) {
+        Ok(closing) => closing,
+        Err(halt) => return ended(Err(unsent(halt))),
+    };
+    while !closing {
+        let count = match read_some(reader, buffer, &mut left) {
+            Ok(0) => return ended(Ok(Served::Ended)),
             Ok(count) => count,
-            Err(halt) => return Visit {
-                end: Err(unread(halt)),
-                rest: 0..0,
-            },
+            Err(halt) => return ended(Err(unread(halt))),
         };
-        let answered = answer(writer, hub, id, &buffer[..count], turns, held);
+        let answered = answer(writer, sessions, client, &buffer[..count], &mut left, held);
         match answered.end {
-            Ok(false) => {}
-            Ok(true) => return Visit {
-                end: Ok(Served::Closed),
-                rest: 0..0,
-            },
+            Ok(now) => closing = now,
             Err(error) => {
                 return Visit {
                     end: Err(error),
@@ -267,106 +252,85 @@ fn serve_open<R: Source, W: Sink, S: BuildHasher>(
             }
         }
     }
+    ended(Ok(Served::Closed))
 }
 
-/// The result of giving a session a piece.
+/// Returns a visit after which no byte is left.
+fn ended(end: Result<Served, ServeError>) -> Visit
+    ensures { result ≡ record { end = end; rest = record { start = 0; end = 0 } } }
+{
+    Visit { end, rest: 0..0 }
+}
+
+/// The result of giving a server a piece.
 #[derive(Clone, Copy)]
 struct Answered {
-    /// The number of bytes that the session was given, from the beginning of the piece.
+    /// The number of bytes that the server was given, from the beginning of the piece.
     used: usize,
-    /// Whether the session is closing.
+    /// Whether the client is closing.
     end: Result<bool, ServeError>,
 }
 
-/// Gives the session a piece, and writes all replies to it.
-fn answer<W: Sink, S: BuildHasher>(
+/// Gives the server a piece of a client, and writes all replies to it. When it is called, no bytes of
+/// the client wait.
+fn answer<W: Sink, C, T: Sessions<C>>(
     writer: &mut W,
-    hub: &mut Hub<S>,
-    id: u64,
+    sessions: &mut T,
+    client: &mut C,
     piece: &[u8],
     turns: &mut u64,
     held: usize,
 ) -> Answered
-    requires is_open { IsOpen hub.old id }
-    requires none_waits { WaitsAtMost 0 hub.old id }
-    ensures part { AnswersPiece W.written W.calls W.failures held hub.old hub.new id writer.old
-        writer.new piece.now turns.old turns.new result }
-    ensures none_left { OnOk result.end (result.used ≡ length piece.now) }
-    ensures full { OnErr result.end (result.used < length piece.now → LeavesRest held hub.old
-        hub.new id piece.now (W.written writer.old) (W.written writer.new)) }
-{
-    laws::answers_go_on();
-    laws::answers_are_added();
-    let mut answered = answer_part(writer, hub, id, piece, turns, held);
-    while answered.used < piece.len() && answered.end.is_ok() {
-        let part = answer_part(writer, hub, id, beyond(piece, answered.used), turns, held);
-        answered = Answered {
-            used: answered.used + part.used,
-            end: part.end,
-        };
-    }
-    answered
-}
-
-/// Gives the session bytes of a piece until more than `held` bytes wait, and writes all waiting bytes.
-fn answer_part<W: Sink, S: BuildHasher>(
-    writer: &mut W,
-    hub: &mut Hub<S>,
-    id: u64,
-    piece: &[u8],
-    turns: &mut u64,
-    held: usize,
-) -> Answered
-    requires is_open { IsOpen hub.old id }
-    requires none_waits { WaitsAtMost 0 hub.old id }
-    ensures part { AnswersPiece W.written W.calls W.failures held hub.old hub.new id writer.old
-        writer.new piece.now turns.old turns.new result }
-    ensures more { result.used < length piece.now → IfOk result.end (λ closing. closing ≡ false) }
-    ensures onward { 0 < length piece.now → 0 < result.used }
-    ensures full { OnErr result.end (result.used < length piece.now → Overfills held hub.old
-        hub.new id (take result.used piece.now) (W.written writer.old) (W.written writer.new)) }
-{
-    let Ok(taken) = hub.bytes_within(id, piece, held) else {
-        // The session is there, so an allocation failed.
-        return Answered {
-            used: piece.len(),
-            end: Err(ServeError::OutOfMemory),
-        };
-    };
-    Answered {
-        used: taken.used,
-        end: write_out(writer, hub, id, turns),
-    }
-}
-
-/// Writes all bytes that wait in the session, and returns whether it is closing.
-fn write_out<W: Sink, S: BuildHasher>(
-    writer: &mut W,
-    hub: &mut Hub<S>,
-    id: u64,
-    turns: &mut u64,
-) -> Result<bool, ServeError>
-    requires { (s : Seat) × (seat_at hub.old id ≡ Some s) }
-    ensures sent { OnOk result (HasSent hub.old hub.new id (W.written writer.old)
-        (W.written writer.new) []) }
-    ensures closing { IfOk result (IsClosing hub.new id) }
-    ensures part { OnErr result (HasSentPart hub.old hub.new id (W.written writer.old)
-        (W.written writer.new)) }
+    requires here { T.knows sessions.old client.old }
+    requires is_open { T.closing sessions.old client.old ≡ false }
+    requires none_waits { T.waiting sessions.old client.old ≡ [] }
+    ensures still_here { T.knows sessions.new client.new }
+    ensures within { result.used ≤ length piece.now }
+    ensures answered { Answers (T.has_served held) (T.has_cut_short held) (W.written writer.old)
+        (W.written writer.new) sessions.old client.old sessions.new client.new
+        (take result.used piece.now) result.end }
+    ensures whole { OnOk result.end (result.used ≡ length piece.now) }
+    ensures all { held ≡ 2 ^ 64 - 1 → result.used ≡ length piece.now }
+    ensures no_memory { IsErrOf result.end ServeError.OutOfMemory →
+        result.used ≡ length piece.now }
+    ensures written { OnOk result.end (T.waiting sessions.new client.new ≡ []) }
+    ensures closing { 0 < length piece.now → IfOk result.end (λ is_closing.
+        is_closing ≡ T.closing sessions.new client.new) }
+    ensures stopped { IfErr result.end (StaysAfter (T.waiting sessions.new client.new)
+        (T.closing sessions.new client.new)) }
+    ensures full { result.used < length piece.now → StopsOverfull held (W.written writer.old)
+        (W.written writer.new) (GoesOn (T.has_served held) sessions.old client.old) (T.takes held)
+        T.writes T.waiting sessions.new client.new }
     ensures failures { W.failures writer.new ≡
-        failures_after (stopped_by is_of_writer result) (W.failures writer.old) }
-    ensures no_read { stopped_by is_of_reader result ≡ false }
-    ensures refusal { IfErr result (StopsAnswering (W.failures writer.old) (W.failures writer.new)
-        turns.new) }
-    ensures no_memory { IsErrOf result ServeError.OutOfMemory → ⊥ }
+        failures_after (stopped_by is_of_writer result.end) (W.failures writer.old) }
+    ensures refusal { IfErr result.end (StopsAnswering (W.failures writer.old)
+        (W.failures writer.new) turns.new) }
     ensures turns { Spends (W.calls writer.old) (W.calls writer.new) turns.old turns.new }
 {
-    let Ok(sent) = hub.write_out(id, writer, turns) else {
-        return Err(ServeError::NoSession);
-    };
-    match sent.end {
-        Ok(()) => Ok(sent.closing),
-        Err(Halt::Failed) => Err(ServeError::Write),
-        Err(Halt::NoTurn) => Err(ServeError::TooManyTurns),
+    let mut used = 0;
+    let mut closing = false;
+    while used < piece.len() {
+        let given = sessions.give(client, beyond(piece, used), held);
+        let Ok(count) = given else {
+            return Answered {
+                used: piece.len(),
+                end: Err(ServeError::OutOfMemory),
+            };
+        };
+        used += count;
+        match sessions.send(client, writer, turns) {
+            Ok(now) => closing = now,
+            Err(halt) => {
+                return Answered {
+                    used,
+                    end: Err(unsent(halt)),
+                };
+            }
+        }
+    }
+    Answered {
+        used,
+        end: Ok(closing),
     }
 }
 
@@ -378,6 +342,18 @@ fn unread(halt: Halt) -> ServeError
 {
     match halt {
         Halt::Failed => ServeError::Read,
+        Halt::NoTurn => ServeError::TooManyTurns,
+    }
+}
+
+/// Returns the error of the call for a write that stopped.
+fn unsent(halt: Halt) -> ServeError
+    ensures error { result ≡ write_error halt }
+    ensures of_writer { is_of_writer result ≡ has_failed halt }
+    ensures of_reader { is_of_reader result ≡ false }
+{
+    match halt {
+        Halt::Failed => ServeError::Write,
         Halt::NoTurn => ServeError::TooManyTurns,
     }
 }

@@ -10,14 +10,14 @@ ghost use Rattle.resp_session.specs.Connections.{shown_pushes, shown_replies};
 ghost use Rattle.resp_session.specs.Serving.{clients_in};
 ghost use Rattle.resp_session.specs.Worlds as session;
 ghost use Rattle.resp_session.specs.Worlds.{client_of, connection_at, new_world};
-ghost use Rattle.resp_turns.specs.Turns.{stopped_by};
+ghost use Rattle.resp_io.specs.Turns.{stopped_by};
 ghost use Rattle.resp_wire.specs.Ends.{outcome_of_push};
 ghost use Rattle.resp_wire.specs.Happening.{AreOpened, Fails, Happens, IsOpenClient, MayLackMemory, Performs, RunsTo, StopsAt};
 ghost use Rattle.resp_wire.specs.Links.{is_of_link};
 ghost use Rattle.resp_wire.specs.Requests.{request_of};
 ghost use Rattle.resp_wire.specs.Worlds.{CountsFailures, KeepFailures, LinksAfter, OthersStay, Shows, event_of, pushes_with, values_in};
 
-use crate::asked::{Asked, Request};
+use crate::asked::{Request, Responses};
 use crate::carrying::{carry_to_client, carry_to_server};
 use crate::end::End;
 use crate::event::{Event, Outcome, Stop};
@@ -88,8 +88,8 @@ impl<L: Link, S: BuildHasher> Model for World<L, S> {
 }
 
 impl<S: BuildHasher + Drop> World<MemoryLink, S> {
-    /// Makes a world of `count` clients that have sent nothing, with links over memory and an empty
-    /// store. Each client and each session reads and writes within these limits.
+    /// Creates a world of `count` clients that have sent nothing, with links over memory and an
+    /// empty store. Each client and each session reads and writes within these limits.
     ///
     /// # Errors
     ///
@@ -112,7 +112,7 @@ impl<S: BuildHasher + Drop> World<MemoryLink, S> {
 }
 
 impl<L: Link, S: BuildHasher + Drop> World<L, S> {
-    /// Makes a world with a client for each of the links and an empty store. The clients have
+    /// Creates a world with a client for each of the links and an empty store. The clients have
     /// sent nothing. Each client and each session reads and writes within these limits.
     ///
     /// # Errors
@@ -309,7 +309,7 @@ impl<L: Link, S: BuildHasher + Drop> World<L, S> {
         laws::readings_go_on();
         laws::what_is_shown_is_read();
         laws::a_change_is_of_one_connection();
-        let mut heard = Asked::new(self.alloc);
+        let mut heard = Responses::new(self.alloc);
         let carried = carry_to_client(
             &mut self.links[number - 1],
             &mut self.ends[number - 1].client,

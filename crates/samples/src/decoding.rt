@@ -1,9 +1,8 @@
 //! Bytes to values.
 
 use anyhow::Result;
-use resp_cut::CutValue;
 use resp_decode::{CutDecoder, Decoder, decode_all};
-use resp_value::{Limits, Value, Version};
+use resp_value::{CutValue, Limits, Value, Version};
 use std::alloc::Global;
 
 pub(crate) fn run(rt: &impl Print, alloc: Global) -> Result<()> {

@@ -3,7 +3,8 @@
 use anyhow::Result;
 use bytes::BytesMut;
 use resp_encode::{append, check_words, encode_push, encode_to, encode_words, size, words_size};
-use resp_value::{Content, Limits, MemorySink, OpenKind, Value, Version};
+use resp_io::MemorySink;
+use resp_value::{Content, Limits, OpenKind, Value, Version};
 use std::alloc::Global;
 
 pub(crate) fn run(rt: &impl Print, alloc: Global) -> Result<()> {

@@ -1,7 +1,7 @@
 //! Replies as flat nodes.
 
 use anyhow::Result;
-use resp_reply::{Node, read};
+use resp_flat::{Node, read_in_place};
 use resp_value::{Limits, Version};
 
 pub(crate) fn run(rt: &impl Print) -> Result<()> {
@@ -10,15 +10,13 @@ pub(crate) fn run(rt: &impl Print) -> Result<()> {
 
 fn read_replies(rt: &impl Print) -> Result<()> {
     let mut nodes = [Node::default(); 16];
-    let mut texts = [0; 64];
     let buffer = b"*2\r\n:7\r\n$4\r\nhits\r\n+OK\r\n:1";
-    let limits = Limits::standard();
-    let reading = read(Version::Three, &limits, buffer, &mut nodes, &mut texts);
+    let read = read_in_place(Version::Three, &Limits::standard(), buffer, &mut nodes);
     let mut at = 0;
-    while at < reading.nodes {
-        println!(rt; "{:?} {}", nodes[at].kind, nodes[at].size)?;
+    while at < read.nodes {
+        println!(rt; "kind {}, size {}", nodes[at].kind, nodes[at].size)?;
         at += nodes[at].size;
     }
-    println!(rt; "{} bytes used: {:?}", reading.used, reading.end)?;
+    println!(rt; "{} bytes used: {:?}", read.used, read.stop)?;
     Ok(())
 }

@@ -3,7 +3,7 @@
 use anyhow::Result;
 use bytes::BytesMut;
 use resp_codec::{CommandCodec, RespCodec};
-use resp_session::words::Asked;
+use resp_session::words::Requested;
 use resp_value::{Limits, Value, Version};
 use std::alloc::Global;
 use tokio_util::codec::{Decoder, Encoder};
@@ -27,7 +27,7 @@ fn read_commands(rt: &impl Print, alloc: Global) -> Result<()> {
     let mut codec = CommandCodec::new(alloc, &Limits::standard());
     let mut buffer = BytesMut::new(alloc);
     buffer.extend_from_slice(b"*1\r\n$4\r\nPING\r\n")?;
-    if let Some(Asked::Command(words)) = codec.decode(&mut buffer)? {
+    if let Some(Requested::Command(words)) = codec.decode(&mut buffer)? {
         println!(rt; "{}", words.word(0).escape_ascii())?;
     }
     let mut out = BytesMut::new(alloc);

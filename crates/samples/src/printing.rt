@@ -1,11 +1,11 @@
 //! Values to lines of text and to JSON.
 
 use anyhow::Result;
-use resp_cut::CutValue;
 use resp_decode::CutDecoder;
+use resp_io::MemorySink;
 use resp_json::value::write_json;
 use resp_print::value::{write_cut_value, write_value};
-use resp_value::{Content, Limits, Members, MemorySink, Value, Version};
+use resp_value::{Content, CutValue, Limits, Members, Value, Version};
 use std::alloc::Global;
 use std::str;
 

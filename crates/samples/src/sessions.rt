@@ -1,7 +1,7 @@
 //! The request that a value makes.
 
 use anyhow::Result;
-use resp_session::words::{Asked, asked_by};
+use resp_session::words::{Requested, asked_by};
 use resp_value::{Content, Members, Value};
 use std::alloc::Global;
 
@@ -15,9 +15,9 @@ pub(crate) fn run(rt: &impl Print, alloc: Global) -> Result<()> {
 
 fn print_request(rt: &impl Print, value: Value) -> Result<()> {
     match asked_by(value) {
-        Asked::Command(words) => println!(rt; "command {}", words.word(0).escape_ascii())?,
-        Asked::Nothing => println!(rt; "nothing")?,
-        Asked::NoCommand => println!(rt; "not a command")?,
+        Requested::Command(words) => println!(rt; "command {}", words.word(0).escape_ascii())?,
+        Requested::Nothing => println!(rt; "nothing")?,
+        Requested::NoCommand => println!(rt; "not a command")?,
     }
     Ok(())
 }

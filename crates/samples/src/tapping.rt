@@ -1,13 +1,15 @@
 //! The traffic of a connection that is forwarded.
 
 use anyhow::Result;
+use resp_io::MemorySink;
 use resp_tap::filtered::watch_filtered;
 use resp_tap::json_tap::watch_json;
 use resp_tap::watch::{Side, watch};
-use resp_tap::{Filter, FilteredTap, JsonTap, Moment, Printing, Seen, ShownPart, Tap, TimedTap};
-use resp_value::{Limits, MemorySink};
+use resp_tap::{Filter, FilteredTap, JsonTap, Moment, Printing, Seen, ShownPart, Tap};
+use resp_value::Limits;
 use std::alloc::Global;
 use std::str;
+use std::time::Duration;
 
 pub(crate) fn run(rt: &impl Print, alloc: Global) -> Result<()> {
     pair_reply(rt, alloc)?;
@@ -19,7 +21,7 @@ pub(crate) fn run(rt: &impl Print, alloc: Global) -> Result<()> {
 
 fn pair_reply(rt: &impl Print, alloc: Global) -> Result<()> {
     let mut tap = Tap::new(alloc, &Limits::standard(), ShownPart::first(32));
-    let step = tap.from_client(b"*1\r\n$4\r\nPING\r\n");
+    let step = tap.from_client(b"*1\r\n$4\r\nPING\r\n", None);
     if let Seen::Command { number, words, .. } = &step.seen {
         println!(rt; "command {number}: {}", words.word(0).escape_ascii())?;
     }
@@ -31,18 +33,19 @@ fn pair_reply(rt: &impl Print, alloc: Global) -> Result<()> {
 }
 
 fn measure_reply(rt: &impl Print, alloc: Global) -> Result<()> {
-    let mut tap = TimedTap::new(alloc, &Limits::standard(), ShownPart::all());
-    let sent = Moment {
-        of_day: 20_216_123_456,
-        steady: 5_000_000,
-    };
+    let mut tap = Tap::new(alloc, &Limits::standard(), ShownPart::all());
+    let sent = Moment::new(
+        Duration::from_micros(1_796_017_016_123_456),
+        Duration::from_secs(5),
+        false,
+    );
     tap.from_client(b"*1\r\n$4\r\nPING\r\n", Some(sent));
     println!(rt; "{:?}", tap.asked())?;
     Ok(())
 }
 
 fn print_traffic(rt: &impl Print, alloc: Global) -> Result<()> {
-    let mut tap = TimedTap::new(alloc, &Limits::standard(), ShownPart::all());
+    let mut tap = Tap::new(alloc, &Limits::standard(), ShownPart::all());
     let mut text = MemorySink::new(alloc, 4_096, 4_096)?;
     let printing = Printing {
         client: 1,
@@ -59,66 +62,36 @@ fn print_errors(rt: &impl Print, alloc: Global) -> Result<()> {
     let mut filter = Filter::all(alloc);
     filter.errors = true;
     println!(rt; "{}", filter.is_by_reply())?;
-    let mut tap = FilteredTap::new(alloc, &Limits::standard(), ShownPart::all(), &filter);
+    let mut tap = FilteredTap::new(alloc, &Limits::standard(), ShownPart::all(), filter);
     let mut text = MemorySink::new(alloc, 4_096, 4_096)?;
     let printing = Printing {
         client: 1,
         shows_passwords: false,
     };
     let sent = b"*1\r\n$4\r\nPING\r\n*2\r\n$4\r\nINCR\r\n$1\r\na\r\n";
-    watch_filtered(
-        &mut tap,
-        &filter,
-        printing,
-        Side::Client,
-        sent,
-        None,
-        &mut text,
-    )?;
+    watch_filtered(&mut tap, printing, Side::Client, sent, None, &mut text)?;
     let heard = b"+PONG\r\n-WRONGTYPE not a number\r\n";
-    watch_filtered(
-        &mut tap,
-        &filter,
-        printing,
-        Side::Server,
-        heard,
-        None,
-        &mut text,
-    )?;
+    watch_filtered(&mut tap, printing, Side::Server, heard, None, &mut text)?;
     print!(rt; "{}", str::from_utf8(text.bytes())?)?;
     Ok(())
 }
 
 fn print_json(rt: &impl Print, alloc: Global) -> Result<()> {
-    let sent = Moment {
-        of_day: 20_216_123_456,
-        steady: 5_000_000,
-    };
-    let heard = Moment {
-        of_day: 20_216_123_576,
-        steady: 5_000_120,
-    };
-    let all = Filter::all(alloc);
-    let mut tap = JsonTap::new(alloc, &Limits::standard(), &all);
+    let start = Duration::from_micros(1_796_017_016_123_456);
+    let sent = Moment::new(start, Duration::from_secs(5), false);
+    let later = start.saturating_add(Duration::from_micros(120));
+    let heard = Moment::new(later, Duration::from_micros(5_000_120), false);
+    let mut tap = JsonTap::new(alloc, &Limits::standard(), Filter::all(alloc));
     let mut text = MemorySink::new(alloc, 4_096, 4_096)?;
     watch_json(
         &mut tap,
-        &all,
         1,
         Side::Client,
         b"*1\r\n$4\r\nPING\r\n",
         sent,
         &mut text,
     )?;
-    watch_json(
-        &mut tap,
-        &all,
-        1,
-        Side::Server,
-        b"-ERR no\r\n",
-        heard,
-        &mut text,
-    )?;
+    watch_json(&mut tap, 1, Side::Server, b"-ERR no\r\n", heard, &mut text)?;
     print!(rt; "{}", str::from_utf8(text.bytes())?)?;
     Ok(())
 }

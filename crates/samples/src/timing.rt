@@ -1,7 +1,7 @@
 //! A histogram of times.
 
 use anyhow::Result;
-use resp_times::Histogram;
+use resp_stats::Histogram;
 
 pub(crate) fn run(rt: &impl Print) -> Result<()> {
     let mut delays = Histogram::new();

@@ -1,10 +1,8 @@
 //! Values, limits, commands and devices in memory.
 
 use anyhow::Result;
-use resp_value::{
-    Command, Content, Digits, Limits, Line, MemorySink, MemorySource, PairList, Source, Value,
-    write_all,
-};
+use resp_io::{MemorySink, MemorySource, Source, write_all};
+use resp_value::{Command, Content, Digits, Limits, Line, PairList, Value};
 use std::alloc::Global;
 
 pub(crate) fn run(rt: &impl Print, alloc: Global) -> Result<()> {

@@ -2,11 +2,12 @@
 
 use anyhow::Result;
 use resp_client::Client;
+use resp_io::{MemorySink, MemorySource};
 use resp_server::Hub;
-use resp_value::{Command, Limits, MemorySink, MemorySource};
+use resp_value::{Command, Limits};
 use resp_wire::ask::ask;
 use resp_wire::serve::serve;
-use resp_wire::{Asked, Request};
+use resp_wire::{Request, Responses};
 use std::alloc::Global;
 use std::hash::{BuildHasherDefault, FoldHasher};
 
@@ -25,7 +26,7 @@ fn ask_two(rt: &impl Print, alloc: Global, requests: &[Request]) -> Result<()> {
     let mut reader = MemorySource::new(b"+OK\r\n:1\r\n", 4);
     let mut writer = MemorySink::new(alloc, 16, 256)?;
     let mut client = Client::new(alloc, &Limits::standard());
-    let mut received = Asked::new(alloc);
+    let mut received = Responses::new(alloc);
     ask(
         &mut reader,
         &mut writer,

@@ -1,4 +1,5 @@
 """Reads RESP2 and RESP3, the wire protocol of Redis."""
-from resp._resp import Pairing, ProtocolError, Push, Reader, ReplyError, RespError, __version__, pack
+from resp._resp import NO_REPLY, Pairing, Pairs, ProtocolError, Push, Reader, ReplyError, RespError, __version__, pack
 
-__all__ = ["Pairing", "ProtocolError", "Push", "Reader", "ReplyError", "RespError", "__version__", "pack"]
+__all__ = ["NO_REPLY", "Pairing", "Pairs", "ProtocolError", "Push", "Reader", "ReplyError", "RespError", "__version__",
+           "pack"]

@@ -3,8 +3,13 @@ from typing import Any, SupportsIndex
 
 from typing_extensions import Buffer
 
-__all__ = ["Pairing", "ProtocolError", "Push", "Reader", "ReplyError", "RespError", "__version__", "pack"]
+__all__ = ["NO_REPLY", "Pairing", "Pairs", "ProtocolError", "Push", "Reader", "ReplyError", "RespError", "__version__",
+           "pack"]
 __version__: str
+
+class NoReply: ...
+
+NO_REPLY: NoReply
 
 class RespError(Exception): ...
 
@@ -14,6 +19,7 @@ class ProtocolError(RespError):
 
 class ReplyError(RespError): ...
 class Push(list[Any]): ...
+class Pairs(list[tuple[Any, Any]]): ...
 
 class Reader:
     def __init__(
@@ -22,7 +28,7 @@ class Reader:
         replyError: Callable[[str], Any] = ...,
         encoding: str | None = None,
         errors: str | None = None,
-        notEnoughData: Any = False,
+        notEnoughData: Any = ...,
         protocol: int = 2,
         depth: int = 32,
         length: int = 536870912,
@@ -48,7 +54,7 @@ class Pairing:
         replyError: Callable[[str], Any] = ...,
         encoding: str | None = None,
         errors: str | None = None,
-        notEnoughData: Any = False,
+        notEnoughData: Any = ...,
         protocol: int = 2,
         depth: int = 32,
         length: int = 536870912,

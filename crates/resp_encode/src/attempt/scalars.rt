@@ -1,6 +1,6 @@
 //! Encodes values without members. Each function appends the text and returns true, or leaves the
-//! buffer unchanged and returns false if the value has a fault or there is no room. The limit of
-//! total is not checked here.
+//! buffer unchanged and returns false if the value has a fault or there is no room. The limit
+//! `total` is not checked here.
 
 ghost use Rattle.std.specs.Prelude.{◌≡◌, ◌+◌, ℕ};
 ghost use Rattle.std.specs.Bool.{OnTrue};

@@ -11,7 +11,7 @@ use Rattle.resp_scan.specs.declared.event.TextKind.{TextKind}
 use Rattle.resp_scan.specs.declared.machine.EventTag.{EventTag}
 use Rattle.resp_scan.specs.declared.machine.EventTag.TheVariants as tag
 use Rattle.resp_scan.specs.declared.machine.Machine.{Machine}
-use Rattle.resp_scan.specs.declared.machine.Taken.{Taken}
+use Rattle.resp_scan.specs.declared.machine.Advance.{Advance}
 use Rattle.resp_scan.specs.declared.listen.Turn.TheVariants as turn
 use Rattle.resp_scan.specs.declared.listen.Turned.{Turned}
 use Rattle.resp_scan.specs.Counts.{begin_count}
@@ -94,7 +94,7 @@ sound_step result s m p sound h =
 -- What a tag answers.
 
 -- an event by its tag
-pub event_answers : (taken : Taken) (m : Machine) (s : Place) (p : List ℕ) (w : EventTag) (x : Event) → IsSound s → out_of taken m ≡ out_from s p →
+pub event_answers : (taken : Advance) (m : Machine) (s : Place) (p : List ℕ) (w : EventTag) (x : Event) → IsSound s → out_of taken m ≡ out_from s p →
     taken.tag ≡ w → out_of_event taken.used (Some x) (after_bytes taken.used (place_of m)) ≡ after_step (out_by w taken.used m) →
     IsPartOf p taken.used (Some x) → StepAnswers s (record m { taken = m.taken + taken.used }) p (gives taken.used x)
 event_answers taken m s p w x sound out by_tag heard lent = record {
@@ -107,14 +107,14 @@ event_answers taken m s p w x sound out by_tag heard lent = record {
 }
 
 -- the end of a value
-pub done_answers : (taken : Taken) (m : Machine) (s : Place) (p : List ℕ) → IsSound s → out_of taken m ≡ out_from s p → taken.tag ≡ tag.Done →
+pub done_answers : (taken : Advance) (m : Machine) (s : Place) (p : List ℕ) → IsSound s → out_of taken m ≡ out_from s p → taken.tag ≡ tag.Done →
     StepAnswers s (record m { taken = m.taken + taken.used }) p (gives taken.used event.Done)
 done_answers taken m s p sound out by_tag =
     event_answers taken m s p tag.Done event.Done sound out by_tag
     (done_heard taken.used (place_of m) (done_none taken m s p sound out by_tag).1) tt
 
 -- the end of the piece
-pub more_answers : (taken : Taken) (m : Machine) (s : Place) (p : List ℕ) → IsSound s → out_of taken m ≡ out_from s p → taken.tag ≡ tag.More →
+pub more_answers : (taken : Advance) (m : Machine) (s : Place) (p : List ℕ) → IsSound s → out_of taken m ≡ out_from s p → taken.tag ≡ tag.More →
     StepAnswers s (record m { taken = m.taken + taken.used }) p (Ok (record { used = taken.used; event = None }))
 more_answers taken m s p sound out by_tag = record {
   heard = told taken m s p tag.More None out by_tag refl;
@@ -126,7 +126,7 @@ more_answers taken m s p sound out by_tag = record {
 }
 
 -- a refused byte
-pub failed_answers : (taken : Taken) (m : Machine) (s : Place) (p : List ℕ) → IsSound s → out_of taken m ≡ out_from s p → taken.tag ≡ tag.Failed →
+pub failed_answers : (taken : Advance) (m : Machine) (s : Place) (p : List ℕ) → IsSound s → out_of taken m ≡ out_from s p → taken.tag ≡ tag.Failed →
     StepAnswers s (record m { taken = m.taken + taken.used }) p (Err (record { cause = m.cause; at = m.taken + taken.used }))
 failed_answers taken m s p sound out by_tag =
     let f = failed_is taken m s p sound out by_tag in

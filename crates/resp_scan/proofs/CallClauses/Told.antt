@@ -3,7 +3,7 @@ use Rattle.std.proofs.Common.{◌≡◌, ℕ, ◌+◌, ◌-◌, ◌<◌, ◌≤�
 use Rattle.std.proofs.lemmas.Grind.{common_steps}
 use Rattle.std.proofs.lemmas.Bool.Decides.{nat_tests}
 use Rattle.resp_scan.specs.declared.machine.Machine.{Machine}
-use Rattle.resp_scan.specs.declared.machine.Taken.{Taken}
+use Rattle.resp_scan.specs.declared.machine.Advance.{Advance}
 use Rattle.resp_scan.specs.declared.machine.EventTag.{EventTag}
 use Rattle.resp_scan.specs.declared.event.Event.{Event}
 use Rattle.resp_scan.specs.Machine.Tokens.{Place, Digit}
@@ -14,7 +14,7 @@ use Rattle.resp_scan.specs.Machine.StepOutcomes.{after_bytes, after_step, out_of
 use Rattle.resp_scan.proofs.Soundness.Counted.{place_counted}
 
 -- an event by its tag is what comes of the piece, once its bytes are counted
-pub told : (g : Taken) (m : Machine) (s : Place) (p : List ℕ) (w : EventTag) (v : Option Event) → out_of g m ≡ out_from s p → g.tag ≡ w →
+pub told : (g : Advance) (m : Machine) (s : Place) (p : List ℕ) (w : EventTag) (v : Option Event) → out_of g m ≡ out_from s p → g.tag ≡ w →
     out_of_event g.used v (after_bytes g.used (place_of m)) ≡ after_step (out_by w g.used m) →
     out_of_event g.used v (place_of (record m { taken = m.taken + g.used })) ≡ after_step (out_from s p)
 told g m s p w v e q h =

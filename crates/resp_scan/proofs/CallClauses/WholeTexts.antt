@@ -12,7 +12,7 @@ use Rattle.resp_scan.specs.declared.event.TextKind.TheVariants as kind
 use Rattle.resp_scan.specs.declared.machine.State.{State}
 use Rattle.resp_scan.specs.declared.machine.EventTag.{EventTag}
 use Rattle.resp_scan.specs.declared.machine.EventTag.TheVariants as tag
-use Rattle.resp_scan.specs.declared.machine.Taken.{Taken}
+use Rattle.resp_scan.specs.declared.machine.Advance.{Advance}
 use Rattle.resp_scan.specs.declared.machine.Machine.{Machine}
 use Rattle.resp_scan.specs.declared.machine.State.TheVariants as state
 use Rattle.resp_scan.specs.Kinds.{content_events, rules_of, text_kind_of}
@@ -201,7 +201,7 @@ line_text_is tag.Double k bytes is line = subst (λ x. IsTextOf x bytes) (sym is
 line_text_is w k bytes is line = absurd is
 
 -- A line that lies in the piece.
-pub line_tells : (s : Place) (m m' : Machine) (taken : Taken) (run : ℕ) (k : TextKind) (p : List ℕ) → IsText p → IsSound s → IsLineTag taken.tag k →
+pub line_tells : (s : Place) (m m' : Machine) (taken : Advance) (run : ℕ) (k : TextKind) (p : List ℕ) → IsText p → IsSound s → IsLineTag taken.tag k →
     out_of taken m ≡ out_from s p → m.state ≡ state.Line → EndsAt (drop taken.used p) run →
     run ≡ plain_run (take (min (min m.room (total_room (place_of m) - (taken.used + 2))) (length (drop taken.used p))) (drop taken.used p)) →
     m' ≡ record m { taken = m.taken + (taken.used + run + 2); state = state.Boundary } →
@@ -235,7 +235,7 @@ content_ends : (u : Place) → EndsText (content_at 0 u)
 content_ends u more = refl
 
 -- Content that lies in the piece with its CR LF.
-pub content_tells : (s : Place) (m m' : Machine) (taken : Taken) (run : ℕ) (p : List ℕ) → IsText p → IsSound s → taken.tag ≡ tag.Bulk →
+pub content_tells : (s : Place) (m m' : Machine) (taken : Advance) (run : ℕ) (p : List ℕ) → IsText p → IsSound s → taken.tag ≡ tag.Bulk →
     out_of taken m ≡ out_from s p → EndsAt (drop taken.used p) run → LeavesContent m.state m.count run →
     m' ≡ record m { taken = m.taken + (taken.used + run + 2); state = state.Boundary } →
     TellsText s (place_of m') p (taken.used + run + 2) kind.Bulk (take run (drop taken.used p))

@@ -2,7 +2,7 @@
 use Rattle.std.proofs.Common.{◌≡◌, ℕ, ◌+◌, ◌^◌, ◌<◌, ◌≤◌, true, List, [], ◌∷◌, length, sym, subst, arith}
 use Rattle.resp_scan.specs.declared.frame.Frame.{Frame}
 use Rattle.resp_scan.specs.declared.machine.Machine.{Machine}
-use Rattle.resp_scan.specs.declared.machine.Taken.{Taken}
+use Rattle.resp_scan.specs.declared.machine.Advance.{Advance}
 use Rattle.resp_scan.specs.declared.machine.EventTag.{EventTag}
 use Rattle.resp_scan.specs.declared.machine.EventTag.TheVariants as tag
 use Rattle.resp_scan.specs.Machine.Tokens.{Token, Place, Move, Go, Byte, Give, Refuse, AtEnd, AtBigDigit, AtTextEnd, Dead}
@@ -65,7 +65,7 @@ takes_advanced s p = takes_in s.token s p
 -- What a method's answer says.
 
 -- what the machine took keeps the numbers of its place
-pub said_kept : (g : Taken) (m : Machine) (s : Place) (p : List ℕ) → IsSound s → out_of g m ≡ out_from s p →
+pub said_kept : (g : Advance) (m : Machine) (s : Place) (p : List ℕ) → IsSound s → out_of g m ≡ out_from s p →
     IsOut s (out_of g m) × Takes (length p) (out_of g m)
 said_kept g m s p h e = (subst (IsOut s) (sym e) (is_advanced s p h), subst (Takes (length p)) (sym e) (takes_advanced s p))
 
@@ -77,7 +77,7 @@ used_by tag.Done n l m s h k = (omega (arith, h.1), omega (arith, h.1))
 used_by w n l m s h k = (k, omega (arith, h.0.taken))
 
 -- no more than the piece is used, and no byte was counted before
-pub used_within : (g : Taken) (m : Machine) (s : Place) (p : List ℕ) → IsSound s → out_of g m ≡ out_from s p → (g.used ≤ length p) × (m.taken ≤ s.taken)
+pub used_within : (g : Advance) (m : Machine) (s : Place) (p : List ℕ) → IsSound s → out_of g m ≡ out_from s p → (g.used ≤ length p) × (m.taken ≤ s.taken)
 used_within g m s p h e = let k = said_kept g m s p h e in used_by g.tag g.used (length p) m s k.0 k.1
 
 few_at : (n : ℕ) (t : Place) → IsSoundBy n t → t.taken + n ≤ 2 ^ 40
@@ -92,34 +92,34 @@ few_by w n m s h = few_at n (place_of m) h.0.sound
 
 -- the bytes taken are at most 2 ^ 40
 -- what was taken of some place is within the piece, and few
-pub taken_within : (g : Taken) (m : Machine) (p : List ℕ) → (s : Place) × IsSound s × (out_of g m ≡ out_from s p) → g.used ≤ length p
+pub taken_within : (g : Advance) (m : Machine) (p : List ℕ) → (s : Place) × IsSound s × (out_of g m ≡ out_from s p) → g.used ≤ length p
 taken_within g m p (s, h, e) = (used_within g m s p h e).0
 
-pub few_taken : (g : Taken) (m : Machine) (p : List ℕ) → (s : Place) × IsSound s × (out_of g m ≡ out_from s p) → m.taken + g.used ≤ 2 ^ 40
+pub few_taken : (g : Advance) (m : Machine) (p : List ℕ) → (s : Place) × IsSound s × (out_of g m ≡ out_from s p) → m.taken + g.used ≤ 2 ^ 40
 few_taken g m p (s, h, e) = few_by g.tag g.used m s (said_kept g m s p h e).0
 
 part_by : (w : EventTag) (n l : ℕ) (m : Machine) → w ≡ tag.Part → Takes l (out_by w n m) → 0 < n
 part_by w n l m e k = (subst (λ v. Takes l (out_by v n m)) e k).0
 
 -- a part has a byte
-pub part_some : (g : Taken) (m : Machine) (s : Place) (p : List ℕ) → IsSound s → out_of g m ≡ out_from s p → g.tag ≡ tag.Part → 0 < g.used
+pub part_some : (g : Advance) (m : Machine) (s : Place) (p : List ℕ) → IsSound s → out_of g m ≡ out_from s p → g.tag ≡ tag.Part → 0 < g.used
 part_some g m s p h e w = part_by g.tag g.used (length p) m w (said_kept g m s p h e).1
 
 -- a part of a chunk has a byte
-pub chunk_part_some : (g : Taken) (m : Machine) (s : Place) (p : List ℕ) → IsSound s → out_of g m ≡ out_from s p → g.tag ≡ tag.ChunkPart → m.part_start < g.used
+pub chunk_part_some : (g : Advance) (m : Machine) (s : Place) (p : List ℕ) → IsSound s → out_of g m ≡ out_from s p → g.tag ≡ tag.ChunkPart → m.part_start < g.used
 chunk_part_some g m s p h e w = (subst (λ v. Takes (length p) (out_by v g.used m)) w (said_kept g m s p h e).1).0
 
 -- a digit that is owed takes no byte
-pub digit_owed : (g : Taken) (m : Machine) (s : Place) (p : List ℕ) → IsSound s → out_of g m ≡ out_from s p → g.tag ≡ tag.Digit →
+pub digit_owed : (g : Advance) (m : Machine) (s : Place) (p : List ℕ) → IsSound s → out_of g m ≡ out_from s p → g.tag ≡ tag.Digit →
     (g.used ≡ 0) × (is_digit m.digit ≡ true)
 digit_owed g m s p h e w = (subst (λ v. IsOut s (out_by v g.used m)) w (said_kept g m s p h e).0).1
 
 -- at the end of a value no byte is taken, and none is counted
-pub done_none : (g : Taken) (m : Machine) (s : Place) (p : List ℕ) → IsSound s → out_of g m ≡ out_from s p → g.tag ≡ tag.Done → (m.taken ≡ 0) × (g.used ≡ 0)
+pub done_none : (g : Advance) (m : Machine) (s : Place) (p : List ℕ) → IsSound s → out_of g m ≡ out_from s p → g.tag ≡ tag.Done → (m.taken ≡ 0) × (g.used ≡ 0)
 done_none g m s p h e w = let z = (subst (λ v. IsOut s (out_by v g.used m)) w (said_kept g m s p h e).0).1 in (omega (arith, z), omega (arith, z))
 
 -- a machine that failed has met a byte that is refused
-pub failed_is : (g : Taken) (m : Machine) (s : Place) (p : List ℕ) → IsSound s → out_of g m ≡ out_from s p → g.tag ≡ tag.Failed →
+pub failed_is : (g : Advance) (m : Machine) (s : Place) (p : List ℕ) → IsSound s → out_of g m ≡ out_from s p → g.tag ≡ tag.Failed →
     (out_from s p ≡ Bad g.used m.cause (place_of m)) × (m.taken ≡ s.taken)
 failed_is g m s p h e w =
     let f : out_by tag.Failed g.used m ≡ out_from s p = subst (λ v. out_by v g.used m ≡ out_from s p) w e in

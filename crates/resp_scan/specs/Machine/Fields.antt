@@ -5,7 +5,7 @@ use Rattle.resp_scan.specs.declared.machine.State.TheVariants as state
 use Rattle.resp_scan.specs.declared.machine.EventTag.{EventTag}
 use Rattle.resp_scan.specs.declared.machine.EventTag.TheVariants as tag
 use Rattle.resp_scan.specs.declared.machine.Machine.{Machine}
-use Rattle.resp_scan.specs.declared.machine.Taken.{Taken}
+use Rattle.resp_scan.specs.declared.machine.Advance.{Advance}
 use Rattle.resp_scan.specs.declared.event.TextKind.TheVariants as text
 use Rattle.resp_scan.specs.Machine.Tokens.{Token, Place, at, token_at_boundary, Null, Truth, Int, Text, Digit, TextEnd, Open, Close, AtStart, InLine, AtLineLf, AtIntSign, AtIntFirst, InInt, AtIntLf, AtBigSign, AtBigFirst, InBigZeros, AtBigZeroLf, AtBigDigit, InBig, AtTextEnd, AtNullOne, AtNullCr, AtNullLf, AtBool, AtBoolCr, AtBoolLf, AtBulkHead, AtArrayHead, AtHead, InHead, AtHeadLf, AtFormat, AtFormatSecond, AtFormatThird, AtFormatColon, InContent, AtContentCr, AtContentLf, AtStreamCr, AtStreamLf, AtChunk, InChunk, AtChunkCr, AtChunkLf, AtOpenCr, AtOpenLf, AtCloseCr, AtCloseLf, Dead}
 use Rattle.resp_scan.specs.Machine.Scan.{Out, More, Gave, Part, Whole, Bad, scan}
@@ -93,9 +93,9 @@ out_by tag.Close n m = Gave n Close (place_of m)
 out_by tag.Done n m = Whole (record (place_of m) { taken = m.taken + n })
 
 -- the meaning of a result and of the machine after it
-abbrev pub out_of : Taken → Machine → Out
+abbrev pub out_of : Advance → Machine → Out
 out_of g m = out_by g.tag g.used m
 
 -- the machine has read the piece from this index on, at this token
-abbrev pub Reads : Machine → Machine → Token → List ℕ → ℕ → Taken → Type 0
+abbrev pub Reads : Machine → Machine → Token → List ℕ → ℕ → Advance → Type 0
 Reads old new token piece i result = out_of result new ≡ scan i (at (place_of old) token) (drop i piece)

@@ -30,7 +30,7 @@ use Rattle.resp_wire.specs.Hearing.{pushes_in, replies_in}
 use Rattle.resp_wire.specs.Requests.{request_of}
 use Rattle.resp_wire.specs.Worlds.{ShowsClient, ShowsEach, Stands}
 use Rattle.resp_wire.specs.declared.asked.Request.{Request as Asking}
-use Rattle.resp_wire.specs.declared.asked.Asked.{Asked}
+use Rattle.resp_wire.specs.declared.asked.Responses.{Responses}
 use Rattle.resp_wire.specs.declared.end.End.{End}
 use Rattle.resp_wire.proofs.Seated.{seat_here}
 use Rattle.resp_wire.proofs.worlds.Frames.{Beyond, IsFramed, beyond, framed}
@@ -191,7 +191,7 @@ shown_step limits w i k c its is_open = (ap is_gone its ∙ is_open, (λ cause r
 
 -- no client of a world meets a fault
 pub never_refused : ReadingsGoOn → NoClientMeetsAFault → AChangeIsOfOneConnection → (limits : Bounds) (hub : HubState) (ends : List End) (order : List ℕ)
-    (w : World) (at : ShowsEach limits hub ends order w) (i : ℕ) (e : End) (c : Connection) (seat : Option Seat) (before after : Asked) (cause : Cause) →
+    (w : World) (at : ShowsEach limits hub ends order w) (i : ℕ) (e : End) (c : Connection) (seat : Option Seat) (before after : Responses) (cause : Cause) →
     connection_at w.connections (suc i) ≡ Some c → c.dropped ≡ false → (s : Stands limits seat e c) →
     MeetsFault (state_of e.client) before after s.rest s.session.out cause → ⊥
 never_refused go_on no_fault change limits hub ends order w at i e c seat before after cause its is_open s m =
@@ -207,7 +207,7 @@ never_refused go_on no_fault change limits hub ends order w at i e c seat before
     (subst (λ l. ClientFault l h.waiting h.rest m.fault.cause m.fault.at) s.same_limits m.met.fault_of)
 
 pub shown_on : ReadingsGoOn → WhatIsReadIsShown → AChangeIsOfOneConnection → (limits : Bounds) (hub hub' : HubState) (ends : List End)
-    (order : List ℕ) (w : World) (at : ShowsEach limits hub ends order w) (i k : ℕ) (e e' : End) (client' : Client) (fresh heard : Asked)
+    (order : List ℕ) (w : World) (at : ShowsEach limits hub ends order w) (i k : ℕ) (e e' : End) (client' : Client) (fresh heard : Responses)
     (c : Connection) → slice_get ends i ≡ Some e → connection_at w.connections (suc i) ≡ Some c → (is_open : c.dropped ≡ false) → i < length ends →
     (s : Stands limits (seat_at hub (suc i)) e c) → replies_in fresh ≡ [] → pushes_in fresh ≡ [] →
     HearsOn (state_of e.client) client' fresh heard (s.rest ++ take k s.session.out) → hub' ≡ seated hub (suc i) (sent_seat k s.session) →

@@ -6,7 +6,7 @@ use Rattle.std.specs.List.{AllByRecursion}
 use Rattle.std.specs.Option.{option_map}
 use Rattle.resp_value.specs.Bounds.{Bounds}
 use Rattle.resp_value.specs.Canonical.{IsValue}
-use Rattle.resp_value.specs.Devices.{HasRisen}
+use Rattle.resp_io.specs.Devices.{HasRisen}
 use Rattle.resp_value.specs.Values.{datum_of}
 use Rattle.resp_value.specs.declared.cause.Cause.{Cause}
 use Rattle.resp_value.specs.declared.cause.Cause.TheVariants.{OutOfMemory}
@@ -34,7 +34,7 @@ use Rattle.resp_wire.specs.Ends.{KeepsHeard, outcome_of_push}
 use Rattle.resp_wire.specs.Happening.{Fails, Happens, IsOpenClient}
 use Rattle.resp_wire.specs.Hearing.{pushes_in, replies_in}
 use Rattle.resp_wire.specs.Worlds.{HasFailedIn, Shows, ShowsEach, Stands, StopsBy, WorldState, outcome_of}
-use Rattle.resp_wire.specs.declared.asked.Asked.{Asked}
+use Rattle.resp_wire.specs.declared.asked.Responses.{Responses}
 use Rattle.resp_wire.specs.declared.end.End.{End}
 use Rattle.resp_wire.specs.declared.event.Outcome.{Outcome}
 use Rattle.resp_wire.specs.declared.event.Outcome.TheVariants.{Done, Refused}
@@ -181,7 +181,7 @@ stops_to_server {L} is_honest failures answered s number e link link' cause of e
     (refused (its_honest is_honest s number link shows.honest of))) st.there st.is_open st.taking)
 
 pub moves_to_client : {L : Type 0} (is_honest : L → Type 0) → ReadingsGoOn → WhatIsReadIsShown → AChangeIsOfOneConnection → (s : WorldState L)
-    (hub' : HubState) (number count : ℕ) (e between e' : End) (client' : Client) (link link' : L) (fresh heard : Asked) → IsLinkOf s number link →
+    (hub' : HubState) (number count : ℕ) (e between e' : End) (client' : Client) (link link' : L) (fresh heard : Responses) → IsLinkOf s number link →
     e ≡ get_or s.ends (number - 1) e → between ≡ get_or (set s.ends (number - 1) (with_client e client')) (number - 1) between →
     replies_in fresh ≡ [] → pushes_in fresh ≡ [] → (is_honest link → IfSome (seat_at s.hub number) (λ t. WhereTaken e.client (λ front.
     HearsOn (state_of e.client) client' fresh heard (front ++ take count t.out)))) →
@@ -217,7 +217,7 @@ moves_to_client {L} is_honest go_on nothing_else change s hub' number count e be
     )
 
 pub stops_to_client : {L : Type 0} (is_honest : L → Type 0) (failures : L → ℕ) → ReadingsGoOn → NoClientMeetsAFault → AChangeIsOfOneConnection →
-    (s : WorldState L) (number : ℕ) (e : End) (link link' : L) (fresh heard : Asked) (cause : Cause) → IsLinkOf s number link →
+    (s : WorldState L) (number : ℕ) (e : End) (link link' : L) (fresh heard : Responses) (cause : Cause) → IsLinkOf s number link →
     e ≡ get_or s.ends (number - 1) e → (is_honest link → IfSome (seat_at s.hub number) (λ t. WhereTaken e.client (λ front.
     StopsCarrying (MeetsFault (state_of e.client) fresh heard front t.out) (failures link) (failures link') cause))) →
     Fails is_honest failures s (world_of s.hub s.ends (set s.links (number - 1) link') s.order s.stopped) cause

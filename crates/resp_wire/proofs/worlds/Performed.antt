@@ -2,7 +2,7 @@
 use Rattle.std.proofs.Common.{◌≡◌, ◌≢◌, ℕ, ◌-◌, false, Option, List, length, get_or, map, set, slice_get, take, IfErr, IfOk, IfSome, OnErr, Ok, Result, refl, sym, ap, subst, ◌∙◌, arith}
 use Rattle.std.proofs.lemmas.List.{length-set}
 use Rattle.std.proofs.lemmas.Option.{slice_get_read}
-use Rattle.resp_value.specs.Devices.{failures_after}
+use Rattle.resp_io.specs.Devices.{failures_after}
 use Rattle.resp_value.specs.declared.cause.Cause.{Cause}
 use Rattle.resp_value.specs.declared.cause.Cause.TheVariants.{OutOfMemory}
 use Rattle.resp_session.specs.ReadingLaws.{ReadingsStay}
@@ -10,7 +10,7 @@ use Rattle.resp_session.specs.Requests.{Request}
 use Rattle.resp_session.specs.Serving.{ArrivalsStay, WhatHasComeWasSent}
 use Rattle.resp_session.specs.WorldLaws.{AChangeIsOfOneConnection, IsPossible}
 use Rattle.resp_session.specs.Worlds.{Drop, ToClient, ToServer, WorldEvent, client_of}
-use Rattle.resp_turns.specs.Turns.{stopped_by}
+use Rattle.resp_io.specs.Turns.{stopped_by}
 use Rattle.resp_client.specs.Clients.{state_of}
 use Rattle.resp_client.specs.Sending.{MayBeSent}
 use Rattle.resp_server.specs.Hubs.{HubState, Seat, seat_at}

@@ -1,15 +1,15 @@
 //! A link over TCP.
 
 ghost use Rattle.std.specs.Prelude.{◌≡◌, ◌+◌, ◌<◌, ◌≤◌, None, length, is_err, true, IfErr, IfOk, IsErrOf, OnOk};
-ghost use Rattle.resp_value.specs.Devices.{HasRisen, failures_after};
+ghost use Rattle.resp_io.specs.Devices.{HasRisen, failures_after};
 ghost use Rattle.resp_wire.specs.Links.{IsOutOfTurns, StopsPassing, StopsReceiving, is_of_link};
 ghost use Rattle.resp_wire.specs.TcpLinks.{UsesBothEnds, receiving_end, sending_end};
-ghost use Rattle.resp_turns.specs.Turns.{Spends, SpendsAtMost};
+ghost use Rattle.resp_io.specs.Turns.{Spends, SpendsAtMost};
 
 use super::{Carried, Direction, Link, LinkFault};
-use resp_turns::{Halt, read_some, write_text};
+use resp_io::device::{Device, Sink, Source};
+use resp_io::{Halt, read_some, write_text};
 use resp_value::cause::Cause;
-use resp_value::device::{Device, Sink, Source};
 use std::io;
 use std::net::{Net, TcpListener, TcpStream};
 
@@ -158,7 +158,7 @@ fn pass<W: Sink, R: Source>(
 }
 
 /// Reads as many bytes as there is room for.
-#[tactic(auto, using(resp_turns::proofs::Turning::spends_more))]
+#[tactic(auto, using(resp_io::proofs::Turning::spends_more))]
 fn receive<R: Source>(to: &mut R, into: &mut [u8], turns: &mut u64) -> Result<(), Cause>
     ensures refusal { IfErr result (StopsReceiving (R.failures to.old) (R.failures to.new)
         (R.remaining to.old) (R.remaining to.new) turns.new) }

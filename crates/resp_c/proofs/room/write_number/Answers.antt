@@ -1,5 +1,5 @@
 use Rattle.std.proofs.Common.{[], ◌∷◌, ◌++◌, ◌∙◌, subst}
-use Rattle.resp_encode.proofs.Decimals.{decimal-std}
+use Rattle.resp_value.proofs.StdDigits.{decimal-std}
 use Rattle.resp_c.specs.Writes.{Writes}
 use Rattle.resp_c.proofs.room.write_number.Goals as goal
 

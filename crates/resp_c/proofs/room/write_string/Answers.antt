@@ -1,7 +1,7 @@
 use Rattle.std.proofs.Common.{◌≡◌, [], ◌∷◌, ◌++◌, ◌∙◌, subst, arith}
 use Rattle.resp_value.specs.Bytes.{crlf}
 use Rattle.resp_value.specs.Numbers.{decimal}
-use Rattle.resp_encode.proofs.Decimals.{decimal-std}
+use Rattle.resp_value.proofs.StdDigits.{decimal-std}
 use Rattle.resp_c.specs.Writes.{Writes}
 use Rattle.resp_c.proofs.RoomTexts.{length-string, stands_none, string_parts, writes_nothing, writes_whole}
 use Rattle.resp_c.proofs.room.write_string.Goals as goal

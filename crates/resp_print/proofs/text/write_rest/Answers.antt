@@ -1,6 +1,6 @@
 use Rattle.std.proofs.Common.{drop, subst, sym, take, take-append-drop}
 use Rattle.std.proofs.lemmas.List.{take_rest}
-use Rattle.resp_value.specs.Devices.{Appends}
+use Rattle.resp_io.specs.Devices.{Appends}
 use Rattle.resp_print.proofs.text.write_rest.Goals as goal
 
 pub returns-in-Err : goal.returns-in-Err

@@ -6,7 +6,7 @@ use Rattle.resp_value.specs.Data as d
 use Rattle.resp_value.specs.Values.{datum_of}
 use Rattle.resp_value.specs.declared.value.Value.TheVariants as value
 use Rattle.resp_print.proofs.Lines.{group_printed}
-use Rattle.resp_cut.specs.Cuts.{cut_lengths}
+use Rattle.resp_value.specs.Cuts.{cut_lengths}
 use Rattle.resp_print.proofs.value.write_cut_push_value.Goals as goal
 
 pub returns : goal.returns

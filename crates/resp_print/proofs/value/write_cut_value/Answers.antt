@@ -1,6 +1,6 @@
 use Rattle.std.proofs.Common.{inr, [], refl, sym, ◌∙◌}
 use Rattle.std.proofs.lemmas.List.{append-nil}
-use Rattle.resp_cut.specs.Cuts.{cut_lengths}
+use Rattle.resp_value.specs.Cuts.{cut_lengths}
 use Rattle.resp_print.proofs.value.write_cut_value.Goals as goal
 
 pub returns : goal.returns

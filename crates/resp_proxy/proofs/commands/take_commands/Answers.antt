@@ -1,6 +1,6 @@
 use Rattle.resp_proxy.specs.Leaving.{IsAside}
 use Rattle.std.proofs.Common.{◌≡◌, ◌∙◌, true, arith, subst, sym, ◌++◌, take, option_map}
-use Rattle.resp_proxy.specs.declared.commands.Taken.{Taken}
+use Rattle.resp_proxy.specs.declared.commands.TakenCommands.{TakenCommands}
 use Rattle.resp_proxy.specs.Taking.{TakesSome}
 use Rattle.resp_proxy.specs.Unfinished.{WhereUnfinished, terms_of}
 use Rattle.resp_proxy.proofs.Takings.{all-taken, aside-taken, lost-taken, more-taken, never-same, one-aside}
@@ -9,7 +9,7 @@ use Rattle.resp_proxy.proofs.commands.take_commands.Goals as goal
 pub returns-in-Ok-Whole-eq0-clause-taken : goal.returns-in-Ok-Whole-eq0-clause-taken
 returns-in-Ok-Whole-eq0-clause-taken c =
     let l = c.loop-used in
-    subst (λ (r : Taken). WhereUnfinished c.args.intake.now c.args.unfinished.now (λ front. TakesSome (terms_of c.args.intake.now) c.args.who
+    subst (λ (r : TakenCommands). WhereUnfinished c.args.intake.now c.args.unfinished.now (λ front. TakesSome (terms_of c.args.intake.now) c.args.who
     (front ++ take r.used c.args.piece.now) c.take_one.new.unfinished (option_map (λ text. text.items) r.aside) r.end c.args.mux.now c.take_one.new.mux))
     (sym c.ended.ensures)
     (never-same c.args.intake.now l.intake c.args.unfinished.now l.unfinished c.take_one.new.unfinished c.args.mux.now l.mux c.take_one.new.mux c.args.who
@@ -25,7 +25,7 @@ loop-used-preserved c =
 pub returns-in-Ok-Partial-clause-taken : goal.returns-in-Ok-Partial-clause-taken
 returns-in-Ok-Partial-clause-taken c =
     let l = c.loop-used in
-    subst (λ (r : Taken). WhereUnfinished c.args.intake.now c.args.unfinished.now (λ front. TakesSome (terms_of c.args.intake.now) c.args.who
+    subst (λ (r : TakenCommands). WhereUnfinished c.args.intake.now c.args.unfinished.now (λ front. TakesSome (terms_of c.args.intake.now) c.args.who
     (front ++ take r.used c.args.piece.now) c.take_one.new.unfinished (option_map (λ text. text.items) r.aside) r.end c.args.mux.now c.take_one.new.mux))
     (sym c.ended-in-Ok-Partial.ensures)
     (all-taken c.args.intake.now l.intake c.args.unfinished.now l.unfinished c.take_one.new.unfinished c.args.mux.now l.mux c.take_one.new.mux c.args.who
@@ -42,7 +42,7 @@ returns-in-Ok-Aside-clause-taken c =
 pub returns-in-Err-clause-taken : goal.returns-in-Err-clause-taken
 returns-in-Err-clause-taken c =
     let l = c.loop-used in
-    subst (λ (r : Taken). WhereUnfinished c.args.intake.now c.args.unfinished.now (λ front. TakesSome (terms_of c.args.intake.now) c.args.who
+    subst (λ (r : TakenCommands). WhereUnfinished c.args.intake.now c.args.unfinished.now (λ front. TakesSome (terms_of c.args.intake.now) c.args.who
     (front ++ take r.used c.args.piece.now) c.take_one.new.unfinished (option_map (λ text. text.items) r.aside) r.end c.args.mux.now c.take_one.new.mux))
     (sym c.ended-in-Err.ensures)
     (lost-taken c.args.intake.now l.intake c.args.unfinished.now l.unfinished c.take_one.new.unfinished c.args.mux.now l.mux c.take_one.new.mux c.args.who

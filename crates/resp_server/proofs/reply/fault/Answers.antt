@@ -11,7 +11,7 @@ returns-clause-appended c =
     c.append_number.ensures.appended ∙ ap (λ l. ((l ++ codes " at byte ") ++ decimal c.args.at) ++ codes "\r\n")
     (c.extend_reserved-2.ensures.items ∙ ap (λ l. l ++ name)
     (c.extend_reserved.ensures.items ∙ ap (λ l. l ++ codes "-ERR Protocol error: ") c.in_ok-reserve.ensures.items)) ∙
-    fault_line old name Two c.args.at c.ranges.at.fits
+    fault_line old name Two c.args.at (c.digits_are_those_of_std.ensures c.args.at c.ranges.at.fits)
 
 pub returns-clause-short : goal.returns-clause-short
 returns-clause-short c =

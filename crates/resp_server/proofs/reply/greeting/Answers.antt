@@ -15,5 +15,5 @@ returns-clause-appended c =
     ap (λ l. l ++ greeting_end) (c.append_number.ensures.appended ∙
     ap (λ l. ((l ++ codes ":") ++ decimal id) ++ codes "\r\n") (c.extend_reserved.ensures.items ∙
     ap (λ l. l ++ c.greeting_begin.result.now) c.in_ok-reserve.ensures.items ∙ ap (λ l. old ++ l) c.greeting_begin.ensures.begin) ∙
-    number_text (old ++ greeting_begin version) version id c.ranges.id.fits ∙ append_assoc old (greeting_begin version) number) ∙
+    number_text (old ++ greeting_begin version) version id (c.digits_are_those_of_std.ensures id c.ranges.id.fits) ∙ append_assoc old (greeting_begin version) number) ∙
     append_assoc old (greeting_begin version ++ number) greeting_end ∙ ap (λ l. old ++ l) (greeting_text version id)

@@ -19,7 +19,7 @@ returns-clause-counts c =
       };
       left = c.take.ensures.left;
       same_taken = c.take.ensures.same_taken;
-      counts = subst (λ (t : ℕ × ℕ × ℕ). CountsAfter c.args.filter.now c.args.client next.step.seen heard t.0 t.2 t.1
+      counts = subst (λ (t : ℕ × ℕ × ℕ). CountsAfter c.args.tap.now.filter c.args.client next.step.seen heard t.0 t.2 t.1
           c.args.tap.now.kept.asked.items c.follow.new.asked.items c.args.counts.now.rows.items
           c.follow.new.counts.rows.items) (λ i. (steps.waited.number i, steps.waited.index i, steps.left i))
           c.follow.ensures;

@@ -1,6 +1,6 @@
 use Rattle.std.proofs.Common.{rules, ◌≡◌, ◌<◌, ◌-◌, ℕ, List, true, Global, subst, sym}
 use Rattle.std.specs.Prelude.{Vec, nat_lt}
-use Rattle.resp_counts.specs.declared.row.Row.{Row}
+use Rattle.resp_stats.specs.declared.row.CommandRow.{CommandRow}
 use Rattle.resp_tap.specs.Counting.{AsksCall, CountsAfter, CountsBy}
 use Rattle.resp_tap.specs.declared.counted.Asked.{Asked}
 use Rattle.resp_tap.specs.declared.counted.Heard.{Heard}
@@ -13,7 +13,7 @@ is_more : (before after : ℕ) → before < after → nat_lt before after ≡ tr
 is_more before after less = search rules
 
 one_more : (f : Filter) (client : ℕ) (what : Seen) (number : ℕ) (words : List (List ℕ)) (lengths : Vec ℕ Global) (heard : Heard)
-    (before after at : ℕ) (old new : List Asked) (rows rows' : List Row) →
+    (before after at : ℕ) (old new : List Asked) (rows rows' : List CommandRow) →
     what ≡ seen.Command number words lengths → before < after → AsksCall f client words before heard.bytes old new rows rows' →
     CountsAfter f client what heard before after at old new rows rows'
 one_more f client what number words lengths heard before after at old new rows rows' is less asks =

@@ -1,4 +1,4 @@
-use Rattle.std.proofs.Common.{◌≡◌, ◌∙◌, ℕ, Option, ap, sym, subst}
+use Rattle.std.proofs.Common.{◌≡◌, ◌∙◌, ℕ, Option, ap, refl, sym, subst}
 use Rattle.std.specs.Prelude.{option_map, slice_get}
 use Rattle.resp_value.specs.Data.{Datum}
 use Rattle.resp_tap.specs.Filtering.{note_of}
@@ -11,8 +11,8 @@ use Rattle.resp_tap.proofs.filtered.watch_filtered_some.Goals as goal
 
 pub returns-clause-watches : goal.returns-clause-watches
 returns-clause-watches g c =
-    let f = c.args.filter.now in
     let old = c.args.tap.now in
+    let f = old.filter in
     let next = c.step-next.result in
     let steps = c.step-next.ensures in
     let what = next.step.seen in
@@ -23,6 +23,7 @@ returns-clause-watches g c =
     ap (slice_get old.kept.notes.items) steps.waited.index in (
       what,
       (
+        refl,
         next.is_line,
         is_chosen,
         record {

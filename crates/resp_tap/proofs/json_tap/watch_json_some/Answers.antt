@@ -1,4 +1,4 @@
-use Rattle.std.proofs.Common.{◌≡◌, ◌∙◌, ℕ, List, Option, ap, subst}
+use Rattle.std.proofs.Common.{◌≡◌, ◌∙◌, ℕ, List, Option, ap, refl, subst}
 use Rattle.std.specs.Prelude.{option_map, slice_get}
 use Rattle.resp_tap.specs.Called.{CalledAfter, IsChosenCalled, name_of_called}
 use Rattle.resp_tap.specs.JsonTaps.{called_of, kept_json}
@@ -10,9 +10,9 @@ use Rattle.resp_tap.proofs.json_tap.watch_json_some.Goals as goal
 
 pub returns-clause-watches : goal.returns-clause-watches
 returns-clause-watches g c =
-    let f = c.args.filter.now in
     let now = c.args.now in
     let old = c.args.tap.now in
+    let f = old.filter in
     let next = c.step-next.result in
     let waited = c.step-next.ensures.waited in
     let what = next.step.seen in
@@ -26,11 +26,12 @@ returns-clause-watches g c =
       client = c.args.client;
       is_line = is_line;
       size = size;
-      of_day = now.of_day;
+      utc = now.utc.micros;
       waited = c.waited_of.result;
     } in (
       what,
       (
+        refl,
         is_line,
         is_chosen,
         size,
@@ -52,7 +53,7 @@ returns-clause-watches g c =
           text = λ whole kept. prints_same _ _ _ _ _ _ _ _
               (ap (λ (name : List ℕ). kept_json f facts is_chosen name whole what)
               (c.name_of_called-name.ensures ∙ ap name_of_called called))
-              (c.write_kept-printed.ensures (tap_state old.connection.timed.tap).kept whole kept);
+              (c.write_kept-printed.ensures (tap_state old.connection.tap).kept whole kept);
         },
       ),
     )

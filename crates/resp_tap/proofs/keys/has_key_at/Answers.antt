@@ -2,7 +2,7 @@ use Rattle.std.proofs.Common.{◌≡◌, [], drop, inl, inr, ap, subst, sym, ◌
 use Rattle.std.specs.Prelude.{slice_index_or}
 use Rattle.std.proofs.lemmas.Bool.{cases_lt}
 use Rattle.resp_commands.specs.Keys.{IsAmongAny, IsKey}
-use Rattle.resp_glob.specs.Globs.{Matches}
+use Rattle.resp_commands.specs.Globs.{Matches}
 use Rattle.resp_tap.proofs.keys.has_key_at.Goals as goal
 use Rattle.resp_tap.proofs.keys.has_key_at.Goals.{else-contains-via-then-contains+else-matches, else-contains-via-else-contains}
 

@@ -2,7 +2,7 @@ use Rattle.std.proofs.Common.{◌<◌, ℕ, [], drop}
 use Rattle.std.specs.Prelude.{slice_index_or}
 use Rattle.resp_commands.specs.Keys.{AreKeys, IsKey}
 use Rattle.resp_commands.specs.declared.command.Keys.{Keys}
-use Rattle.resp_glob.specs.Globs.{Matches}
+use Rattle.resp_commands.specs.Globs.{Matches}
 use Rattle.resp_tap.proofs.keys.has_key_at.Given as goal
 
 -- no word before this place is a key that the glob matches

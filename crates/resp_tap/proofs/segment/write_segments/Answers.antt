@@ -2,7 +2,7 @@ use Rattle.std.proofs.Common.{rules, ◌≡◌, ◌∙◌, ◌+◌, ◌<◌, ℕ
 use Rattle.std.proofs.lemmas.List.{drop_all, drop_more}
 use Rattle.resp_print.proofs.WrittenLemmas.{Appends-none, writes_next, writes_part}
 use Rattle.resp_print.specs.Written.{WritesText}
-use Rattle.resp_value.specs.declared.device.DeviceFault.{DeviceFault}
+use Rattle.resp_io.specs.declared.device.DeviceFault.{DeviceFault}
 use Rattle.resp_tap.specs.Segments.{segment_text, segments_text}
 use Rattle.resp_tap.specs.declared.segment.Segment.{Segment}
 use Rattle.resp_tap.proofs.segment.write_segments.Goals as goal

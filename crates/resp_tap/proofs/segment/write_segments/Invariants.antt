@@ -1,5 +1,5 @@
 use Rattle.std.proofs.Common.{ℕ, List, Option, Result, drop}
-use Rattle.resp_value.specs.declared.device.DeviceFault.{DeviceFault}
+use Rattle.resp_io.specs.declared.device.DeviceFault.{DeviceFault}
 use Rattle.resp_tap.specs.Segments.{segments_text}
 use Rattle.resp_print.specs.Written.{WritesText}
 use Rattle.resp_tap.proofs.segment.write_segments.Given as goal

@@ -6,7 +6,7 @@ use Rattle.resp_wire.specs.Stops.{StopsListening}
 use Rattle.resp_wire.proofs.Exchanges.{all_sent, no_fault_queued, no_fault_written, queue_takes_no_turn, sends_all, sends_part}
 use Rattle.resp_wire.proofs.Queueing.{keeps_on}
 use Rattle.resp_wire.proofs.ask.ask_with.Goals as goal
-use Rattle.resp_turns.proofs.Turning.{spends_no_turns, spends_writes}
+use Rattle.resp_io.proofs.Turning.{spends_no_turns, spends_writes}
 
 pub returns-in-Err-clause-turns : goal.returns-in-Err-clause-turns
 returns-in-Err-clause-turns g c = (

@@ -5,11 +5,11 @@ use Rattle.resp_client.specs.Hearing.{WhereTaken}
 use Rattle.resp_wire.specs.Hearing.{HearsAll, WaitsBefore}
 use Rattle.resp_wire.specs.Stops.{StopsListening, is_of_last_read}
 use Rattle.resp_wire.proofs.Listening.{fails_reading, hears_no_bytes, hears_piece, no_last_read, stops_piece, waits_for_none, waits_for_piece}
-use Rattle.resp_turns.specs.Pieces.{ReadsNothing, ReadsPieces}
-use Rattle.resp_turns.specs.Turns.{has_failed}
-use Rattle.resp_turns.specs.declared.halt.Halt.TheVariants.{Failed, NoTurn}
-use Rattle.resp_turns.proofs.Pieces.{all_read, concat_more, gives, only_pieces}
-use Rattle.resp_turns.proofs.Turning.{end_after, spends_more, spends_nothing}
+use Rattle.resp_io.specs.Pieces.{ReadsNothing, ReadsPieces}
+use Rattle.resp_io.specs.Turns.{has_failed}
+use Rattle.resp_io.specs.declared.halt.Halt.TheVariants.{Failed, NoTurn}
+use Rattle.resp_io.proofs.Pieces.{all_read, concat_more, gives, only_pieces}
+use Rattle.resp_io.proofs.Turning.{end_after, spends_more, spends_nothing}
 use Rattle.resp_wire.proofs.ask.hear_all.Goals as goal
 use Rattle.resp_wire.proofs.ask.hear_all.Goals.{After-read_some}
 

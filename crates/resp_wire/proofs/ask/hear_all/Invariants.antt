@@ -3,8 +3,8 @@ use Rattle.std.specs.List.{concat}
 use Rattle.resp_client.specs.Clients.{state_of}
 use Rattle.resp_client.specs.Hearing.{WhereTaken}
 use Rattle.resp_wire.specs.Hearing.{HearsAll, WaitsBefore}
-use Rattle.resp_turns.specs.Pieces.{GivesPieces}
-use Rattle.resp_turns.specs.Turns.{Spends}
+use Rattle.resp_io.specs.Pieces.{GivesPieces}
+use Rattle.resp_io.specs.Turns.{Spends}
 use Rattle.resp_wire.proofs.ask.hear_all.Given as goal
 
 abbrev pub invariant-loop-reader : goal.invariant-loop-reader

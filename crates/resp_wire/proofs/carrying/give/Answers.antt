@@ -5,7 +5,7 @@ use Rattle.resp_server.specs.Hubs.{HubState, Seat}
 use Rattle.resp_wire.proofs.AnsweredOn.{brings, closes}
 use Rattle.resp_wire.proofs.Seated.{not_there, where_open}
 use Rattle.resp_wire.proofs.ServedTexts.{answered_at, answered_is_there}
-use Rattle.resp_turns.proofs.Turning.{has_risen}
+use Rattle.resp_io.proofs.Turning.{has_risen}
 use Rattle.resp_wire.proofs.carrying.give.Goals as goal
 
 pub returns-in-Err-clause-refusal : goal.returns-in-Err-clause-refusal

@@ -1,7 +1,7 @@
 use Rattle.std.proofs.Common.{[], ◌∷◌, ◌++◌, sym, ap, ◌∙◌, arith}
 use Rattle.resp_schedule.specs.Places.{times}
 use Rattle.resp_schedule.specs.Plans.{Plan, open_count}
-use Rattle.resp_schedule.specs.declared.schedule.State.TheVariants.{Idle}
+use Rattle.resp_schedule.specs.declared.schedule.PlaceState.TheVariants.{Idle}
 use Rattle.resp_schedule.proofs.Steps.{adds_to, new_is_not_gone}
 use Rattle.resp_schedule.proofs.schedule.Schedule.add.Goals as goal
 

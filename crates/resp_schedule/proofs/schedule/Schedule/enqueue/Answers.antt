@@ -1,6 +1,6 @@
 use Rattle.std.proofs.Common.{◌≡◌, get_or, sym, ap, ◌∙◌, arith}
 use Rattle.resp_schedule.specs.Plans.{state_of}
-use Rattle.resp_schedule.specs.declared.schedule.State.TheVariants.{Closed, Idle}
+use Rattle.resp_schedule.specs.declared.schedule.PlaceState.TheVariants.{Closed, Idle}
 use Rattle.resp_schedule.proofs.Lists.{room_to_queue}
 use Rattle.resp_schedule.proofs.schedule.Schedule.enqueue.Goals as goal
 

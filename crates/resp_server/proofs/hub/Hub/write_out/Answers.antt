@@ -3,7 +3,7 @@ use Rattle.std.specs.Option.{option_map}
 use Rattle.resp_server.specs.Hubs.{Seat}
 use Rattle.resp_server.proofs.Seats.{seat_changed, seat_is, sound_with}
 use Rattle.resp_server.proofs.Sending.{written_out}
-use Rattle.resp_turns.proofs.Turning.{spends_nothing}
+use Rattle.resp_io.proofs.Turning.{spends_nothing}
 use Rattle.resp_server.proofs.hub.Hub.write_out.Goals as goal
 
 pub returns-in_default-clause-none : goal.returns-in_default-clause-none

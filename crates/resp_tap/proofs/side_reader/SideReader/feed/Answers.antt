@@ -1,7 +1,7 @@
 use Rattle.std.proofs.Common.{◌≡◌, ◌∙◌, ◌++◌, ap, subst, sym, take}
 use Rattle.std.proofs.Math.Logic.{∥∥₁_map}
 use Rattle.std.specs.Box.{with_value}
-use Rattle.resp_cut.specs.Cuts.{IsCutOf}
+use Rattle.resp_value.specs.Cuts.{IsCutOf}
 use Rattle.resp_value.specs.Spellings.{IsSpelling}
 use Rattle.resp_decode.specs.CutDecoding.{HasTaken, rules_of, shown_of}
 use Rattle.resp_decode.specs.declared.cut_decoder.CutDecoder.{CutDecoder}

@@ -1,7 +1,7 @@
 use Rattle.std.proofs.Common.{rules}
-use Rattle.resp_turns.specs.Turns.{Halts}
-use Rattle.resp_turns.specs.declared.halt.Halt.TheVariants.{NoTurn}
-use Rattle.resp_turns.proofs.Turning.{if_err, spends_writes}
+use Rattle.resp_io.specs.Turns.{Halts}
+use Rattle.resp_io.specs.declared.halt.Halt.TheVariants.{NoTurn}
+use Rattle.resp_io.proofs.Turning.{if_err, spends_writes}
 use Rattle.resp_wire.proofs.link.tcp.pass.Goals as goal
 
 pub returns-in-Err-Failed-clause-turns : goal.returns-in-Err-Failed-clause-turns

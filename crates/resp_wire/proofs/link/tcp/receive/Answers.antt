@@ -1,5 +1,5 @@
 use Rattle.std.proofs.Common.{rules, ◌++◌, take}
-use Rattle.resp_turns.proofs.Turning.{has_read_more, spends_more}
+use Rattle.resp_io.proofs.Turning.{has_read_more, spends_more}
 use Rattle.resp_wire.proofs.link.tcp.receive.Goals as goal
 
 pub loop-count-preserved : goal.loop-count-preserved

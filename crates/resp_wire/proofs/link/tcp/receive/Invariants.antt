@@ -1,5 +1,5 @@
 use Rattle.std.proofs.Common.{◌≡◌, ◌<◌, ◌≤◌, ℕ, List, length}
-use Rattle.resp_turns.specs.Turns.{Spends, WereRead}
+use Rattle.resp_io.specs.Turns.{Spends, WereRead}
 use Rattle.resp_wire.proofs.link.tcp.receive.Given as goal
 
 abbrev pub invariant-loop-count : goal.invariant-loop-count

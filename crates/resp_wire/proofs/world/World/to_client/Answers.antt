@@ -1,6 +1,6 @@
 use Rattle.std.proofs.Common.{◌≡◌, ◌∙◌, ◌-◌, refl, set, subst, sym, ap}
 use Rattle.std.proofs.lemmas.List.{length-set}
-use Rattle.resp_value.specs.Devices.{failures_after}
+use Rattle.resp_io.specs.Devices.{failures_after}
 use Rattle.resp_session.specs.Worlds.{ToClient}
 use Rattle.resp_wire.specs.Ends.{KeepsHeard}
 use Rattle.resp_wire.specs.Happening.{Happens}

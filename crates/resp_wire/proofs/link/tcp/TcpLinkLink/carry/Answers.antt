@@ -9,7 +9,7 @@ use Rattle.resp_wire.specs.declared.link.LinkFault.{LinkFault}
 use Rattle.resp_wire.specs.declared.link.tcp.TcpLink.{TcpLink}
 use Rattle.resp_wire.proofs.link.tcp.TcpLinkLink.carry.Goals as goal
 use Rattle.resp_wire.proofs.link.tcp.TcpLinkLink.carry.Goals.{in-Ok, in-Err}
-use Rattle.resp_turns.specs.Turns.{SpendsAtMost}
+use Rattle.resp_io.specs.Turns.{SpendsAtMost}
 
 -- a count of failures says nothing of the turns
 turns_kept : (way : Direction) (old new : TcpLink) (n most : ℕ) (Out Out' : Type 0) → (Out' → Out) →

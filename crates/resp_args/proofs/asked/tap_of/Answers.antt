@@ -1,6 +1,0 @@
-use Rattle.clap.specs.Words.{found_of, rows_of}
-use Rattle.resp_args.proofs.AskingLemmas.{no_tapping}
-use Rattle.resp_args.proofs.asked.tap_of.Goals as goal
-
-pub returns-in-Err-clause-err : goal.returns-in-Err-clause-err
-returns-in-Err-clause-err c = no_tapping (rows_of (found_of c.args.given.now)) c.in-Err.ensures.err

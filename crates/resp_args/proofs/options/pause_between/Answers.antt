@@ -1,8 +1,0 @@
-use Rattle.std.proofs.Common.{sym}
-use Rattle.clap.specs.Words.{found_of, rows_of}
-use Rattle.resp_args.proofs.DurationLemmas.{has_no_pause}
-use Rattle.resp_args.proofs.options.pause_between.Goals as goal
-
-pub returns-in-Some-clause-none : goal.returns-in-Some-clause-none
-returns-in-Some-clause-none c = has_no_pause (rows_of (found_of c.args.matches.now)) c.args.name.now c.in-Some.text.now c.args.least c.args.most
-    c.pause_of.result (sym c.in-Some.ensures) c.pause_of.ensures.none

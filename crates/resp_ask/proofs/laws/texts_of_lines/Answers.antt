@@ -1,5 +1,0 @@
-use Rattle.resp_ask.proofs.Lining.{told}
-use Rattle.resp_ask.proofs.laws.texts_of_lines.Goals as goal
-
-pub returns : goal.returns
-returns c = told

@@ -1,0 +1,14 @@
+pub mod Ready
+pub mod Places
+pub mod Later
+pub mod Begun
+pub mod Lines
+pub mod LineLists
+pub mod Waits
+pub mod Tickets
+pub mod Finding
+pub mod Carrying
+pub mod Serving
+pub mod Joining
+pub mod Running
+pub mod Failing

@@ -1,0 +1,13 @@
+pub mod Answers
+pub mod Desks
+pub mod Begun
+pub mod Queues
+pub mod Boards
+pub mod Once
+pub mod Tickets
+pub mod Laws
+pub mod Seats
+pub mod Rows
+pub mod Histories
+pub mod Joins
+pub mod Runs

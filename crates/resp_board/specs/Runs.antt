@@ -1,0 +1,119 @@
+-- The clients and lines of a board, and what it has run.
+use Rattle.std.specs.Prelude.{◌≡◌, ◌≢◌, ℕ, ◌+◌, ◌≤◌, Bool, false, true, List, [], map, Option, None, Some, IsSomeAnd, is_some, slice_get, if◌then◌else◌}
+use Rattle.resp_board.specs.declared.board.Board.{Board}
+use Rattle.resp_board.specs.declared.ticket.ClientId.{ClientId}
+use Rattle.resp_board.specs.declared.ticket.Ticket.{Ticket}
+use Rattle.resp_board.specs.Boards.{Event, Lose, is_same}
+use Rattle.resp_board.specs.Desks.{HasNoNumberLeft}
+use Rattle.resp_board.specs.Histories.{History, with_event, with_replies}
+use Rattle.resp_board.specs.Joins.{Stands}
+use Rattle.resp_board.specs.Rows.{begun_in, tickets_in, unsent_in}
+use Rattle.resp_board.specs.Seats.{bytes_in, desk_in}
+
+-- this happened on the board
+abbrev pub HasRun : Board → History → Type 0
+HasRun m h = Stands m.clients.slots m.lines.items m.last h
+
+-- something happened on the board: WhereRun speaks of it
+abbrev pub HasRunSome : Board → Type 0
+HasRunSome m = ∥ ((h : History) × HasRun m h) ∥₁
+
+-- this is true of what happened
+abbrev pub WhereRun : Board → (History → Type 0) → Type 0
+WhereRun m P = (h : History) → HasRun m h → P h
+
+-- the same happened
+abbrev pub KeepsRun : Board → Board → Type 0
+KeepsRun old new = WhereRun old (HasRun new)
+
+-- this event happened, and nothing else
+abbrev pub Runs : Event → Board → Board → Type 0
+Runs e old new = WhereRun old (λ h. HasRun new (with_event e h))
+
+-- the bytes that wait to be given to a client, if it is open
+abbrev pub waiting_for : Board → ClientId → Option (List ℕ)
+waiting_for m who = bytes_in m.clients.slots who
+
+-- there is such a line
+abbrev pub has_line : Board → ℕ → Bool
+has_line m line = is_some (slice_get m.lines.items line)
+
+-- the tickets of the commands that wait on a line, in order
+abbrev pub waiting_on : Board → ℕ → List Ticket
+waiting_on m line = tickets_in (slice_get m.lines.items line)
+
+-- the clients of these commands, in order
+abbrev pub clients_on : Board → ℕ → List ClientId
+clients_on m line = map (λ (t : Ticket). t.client) (waiting_on m line)
+
+-- the number of commands that wait on a line of which a byte was sent: they are the first that wait
+abbrev pub begun_on : Board → ℕ → ℕ
+begun_on m line = begun_in (slice_get m.lines.items line)
+
+-- the bytes that wait to be sent over a line
+abbrev pub unsent_on : Board → ℕ → List ℕ
+unsent_on m line = unsent_in (slice_get m.lines.items line)
+
+-- a client with this id is open
+abbrev pub IsOpen : Board → ClientId → Type 0
+IsOpen m who = is_some (waiting_for m who) ≡ true
+
+-- a client with this id is open, and has had as many commands as there are numbers
+abbrev pub HasNoCommandLeft : Board → ClientId → Type 0
+HasNoCommandLeft m who = IsSomeAnd (desk_in m.clients.slots who) HasNoNumberLeft
+
+-- a client has this id or had it
+abbrev pub IsKnown : Board → ClientId → Type 0
+IsKnown m who = who.number ≤ m.last
+
+-- the same clients and lines are open, and no id was given
+pub record KeepsOpen (old new : Board) : Type 0 where
+  pub clients : (who : ClientId) → is_some (waiting_for new who) ≡ is_some (waiting_for old who)
+  pub lines : (line : ℕ) → has_line new line ≡ has_line old line
+  pub last : new.last ≡ old.last
+
+-- each other client has the bytes that it had
+abbrev pub KeepsOthers : ClientId → Board → Board → Type 0
+KeepsOthers who old new = (other : ClientId) → is_same other who ≡ false → waiting_for new other ≡ waiting_for old other
+
+-- An id that no client had is open, and each other client has the bytes that it had.
+pub record HasOpened (old new : Board) (who : ClientId) : Type 0 where
+  pub unknown : IsKnown old who → ⊥
+  pub known : (other : ClientId) → IsKnown old other → IsKnown new other
+  pub itself : IsKnown new who
+  pub waiting : (other : ClientId) →
+      waiting_for new other ≡ (if is_same other who then Some [] else waiting_for old other)
+
+-- the client is not open, and each other client has the bytes that it had
+pub record HasClosed (old new : Board) (who : ClientId) : Type 0 where
+  pub waiting : (other : ClientId) →
+      waiting_for new other ≡ (if is_same other who then None else waiting_for old other)
+  pub last : new.last ≡ old.last
+
+-- a line that was not there is there, and each client has the bytes that it had
+pub record HasOpenedLine (old new : Board) (line : ℕ) : Type 0 where
+  pub fresh : has_line old line ≡ false
+  pub there : has_line new line ≡ true
+  pub others : (other : ℕ) → other ≢ line → has_line new other ≡ has_line old other
+  pub waiting : (who : ClientId) → waiting_for new who ≡ waiting_for old who
+  pub last : new.last ≡ old.last
+
+-- all numbers of clients were given
+abbrev pub HasNoIdLeft : Board → Type 0
+HasNoIdLeft m = 9223372036854775807 ≤ m.last
+
+-- the first commands that waited on a line, of which a byte was sent, were answered by this text, and the others still wait
+pub record HasAnsweredSome (line : ℕ) (text : List ℕ) (old new : Board) : Type 0 where
+  pub count : ℕ
+  pub begun : begun_on new line + count ≡ begun_on old line
+  pub run : WhereRun old (λ h. HasRun new (with_replies count line text h))
+
+-- the connection of a line was lost, and the first of the commands that waited were answered by this text
+pub record HasLostSome (line : ℕ) (text : List ℕ) (old new : Board) : Type 0 where
+  pub count : ℕ
+  pub run : WhereRun old (λ h. HasRun new (with_event (Lose line count text) h))
+
+-- after the connection of a line was lost, more of the commands that waited were answered by this text
+pub record HasFailedSome (line : ℕ) (text : List ℕ) (old new : Board) : Type 0 where
+  pub count : ℕ
+  pub run : (lost : ℕ) (h : History) → HasRun old (with_event (Lose line lost text) h) → HasRun new (with_event (Lose line (lost + count) text) h)

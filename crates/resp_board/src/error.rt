@@ -1,0 +1,56 @@
+//! The errors of a board.
+
+use thiserror::Error;
+
+/// The error of [`Board::open`](crate::Board::open): no client is opened.
+#[derive(Clone, Copy, Debug, PartialEq, Eq, Error)]
+pub enum OpenError {
+    /// All numbers of clients were given.
+    #[error("no number is left for a client")]
+    TooMany,
+    /// An allocation failed.
+    #[error("out of memory")]
+    OutOfMemory,
+}
+
+/// The error of [`Board::ask`](crate::Board::ask): the command is not queued.
+#[derive(Clone, Copy, Debug, PartialEq, Eq, Error)]
+pub enum AskError {
+    /// No client with this id is open.
+    #[error("no client with this id is open")]
+    NoClient,
+    /// There is no such line.
+    #[error("there is no such line")]
+    NoLine,
+    /// No number is left for a command of the client.
+    #[error("no number is left for a command of the client")]
+    TooMany,
+    /// An allocation failed.
+    #[error("out of memory")]
+    OutOfMemory,
+}
+
+/// The error of [`Board::own`](crate::Board::own): the client does not get the reply.
+#[derive(Clone, Copy, Debug, PartialEq, Eq, Error)]
+pub enum OwnError {
+    /// No client with this id is open.
+    #[error("no client with this id is open")]
+    NoClient,
+    /// No number is left for a command of the client.
+    #[error("no number is left for a command of the client")]
+    TooMany,
+    /// An allocation failed.
+    #[error("out of memory")]
+    OutOfMemory,
+}
+
+/// The error of [`Board::reply`](crate::Board::reply): no client gets the reply.
+#[derive(Clone, Copy, Debug, PartialEq, Eq, Error)]
+pub enum ReplyError {
+    /// No command of which a byte was sent waits on the line.
+    #[error("no command waits for this reply")]
+    Unasked,
+    /// An allocation failed.
+    #[error("out of memory")]
+    OutOfMemory,
+}

@@ -1,0 +1,9 @@
+pub mod Tried
+pub mod CommandLemmas
+pub mod TaskLemmas
+pub mod AskingLemmas
+pub mod CommandExamples
+pub mod SizeLemmas
+pub mod HostLemmas
+pub mod NameLemmas
+pub mod DurationLemmas

@@ -1,0 +1,12 @@
+pub mod Tried
+pub mod Faults
+pub mod Program
+pub mod Tables
+pub mod Addresses
+pub mod Hosts
+pub mod CommandWords
+pub mod Commands
+pub mod Units
+pub mod Durations
+pub mod Names
+pub mod Sizes

@@ -1,0 +1,17 @@
+use Rattle.resp_print.specs.Shown.{lines_on}
+use Rattle.resp_value.specs.Values.{datum_of}
+use Rattle.resp_value.specs.declared.value.Value.TheVariants as value
+use Rattle.resp_print.specs.Headings.{push_heading}
+use Rattle.resp_cli_loop.specs.declared.play.PlayError.TheVariants.{Write}
+use Rattle.resp_cli_loop.proofs.Printing.{failed_part, is_that_error, prints_next}
+use Rattle.resp_cli_loop.proofs.heard.write_push.Goals as goal
+
+pub returns-clause-prints : goal.returns-clause-prints
+returns-clause-prints g c =
+    prints_next c.played.result _ _ _ _ _ _ (push_heading c.args.client) (lines_on 1 (datum_of (value.Push c.args.push.now))) c.in_ok-write_number.ensures
+    (c.played.ensures.prints _ _ _ _ _ _ c.write_push_value.ensures)
+
+pub returns-in_err-write_number-clause-prints : goal.returns-in_err-write_number-clause-prints
+returns-in_err-write_number-clause-prints g c =
+    rw (is_that_error c.from_residual.result Write c.from_residual.ensures.1)
+    (failed_part _ _ _ _ (push_heading c.args.client) (lines_on 1 (datum_of (value.Push c.args.push.now))) c.in_err-write_number.ensures)

@@ -1,5 +1,0 @@
-use Rattle.resp_cut.proofs.Cutting.{a_cut_value_is_cut_already}
-use Rattle.resp_cut.proofs.laws.a_cut_value_is_cut_already.Goals as goal
-
-pub returns : goal.returns
-returns c = a_cut_value_is_cut_already

@@ -1,5 +1,0 @@
-use Rattle.resp_cut.proofs.Cutting.{short_texts_are_kept}
-use Rattle.resp_cut.proofs.laws.short_texts_are_kept.Goals as goal
-
-pub returns : goal.returns
-returns c = short_texts_are_kept

@@ -1,0 +1,4 @@
+pub mod Devices
+pub mod Turns
+pub mod Pieces
+pub mod Live

@@ -1,3 +1,0 @@
-pub mod Placing
-pub mod Waits
-pub mod Descriptors

@@ -1,0 +1,4 @@
+pub mod Placing
+pub mod Waits
+pub mod Descriptors
+pub mod Ways

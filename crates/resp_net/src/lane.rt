@@ -1,0 +1,136 @@
+//! One direction of a forwarded connection.
+
+ghost use Rattle.std.specs.Prelude.{◌<◌, length};
+
+use crate::non_blocking::{Input, Output};
+use crate::service::Next;
+use crate::stream::Stream;
+use crate::way::{Visited, Way};
+use resp_io::device::Device;
+use std::alloc::Global;
+use std::net::Shutdown;
+
+/// The maximum number of bytes of one read.
+pub const PIECE: usize = 16_384;
+
+/// The maximum number of pieces that are forwarded in each direction before other connections are
+/// visited.
+pub const TURNS: usize = 16;
+
+/// The result of visiting a lane, or of a write.
+#[derive(Clone, Copy, Debug, PartialEq, Eq)]
+pub enum Progress {
+    /// The next visit would block, or nothing is left to do.
+    Waits,
+    /// More bytes may be ready.
+    MayGoOn,
+    /// A socket or an allocation failed.
+    Failed,
+}
+
+/// One direction of a connection.
+#[derive(Drop)]
+pub struct Lane {
+    way: Way,
+    /// Whether the sending side has ended, and the other side was told.
+    has_ended: bool,
+}
+
+/// What a visit of a lane has done.
+#[derive(Clone, Copy)]
+pub struct Forwarded {
+    /// The number of bytes that were read, which are the first of the buffer.
+    pub count: usize,
+    /// Whether the sending side has ended in this visit.
+    pub has_ended: bool,
+    pub progress: Progress,
+}
+
+impl Lane {
+    /// Returns a lane that has forwarded nothing. Does not allocate.
+    pub fn new(alloc: Global) -> Lane {
+        Lane {
+            way: Way::new(alloc),
+            has_ended: false,
+        }
+    }
+
+    /// Returns whether the sending side has ended.
+    pub fn has_ended(&self) -> bool {
+        self.has_ended
+    }
+
+    /// Returns whether bytes that were read wait to be written.
+    pub fn waits(&self) -> bool {
+        self.way.waits()
+    }
+
+    /// Ends the lane. The receiving side is told that no more bytes come.
+    pub fn end(&mut self, to: &Stream) {
+        if !self.has_ended {
+            self.has_ended = true;
+            let _ = to.shutdown(Shutdown::Write);
+        }
+    }
+
+    /// Visits the lane once, with at most one read into the buffer and one write. `is_at_end` says whether
+    /// the input may have ended.
+    pub fn visit(
+        &mut self,
+        from: &Stream,
+        to: &Stream,
+        is_at_end: bool,
+        buffer: &mut [u8],
+    ) -> Forwarded
+        requires { 0 < length buffer.old }
+    {
+        if self.has_ended {
+            return Forwarded {
+                count: 0,
+                has_ended: false,
+                progress: Progress::Waits,
+            };
+        }
+        let mut reader = Device::new(Input::new(from, is_at_end));
+        let mut writer = Device::new(Output::new(to));
+        let (count, visited) = self.way.visit(&mut reader, &mut writer, buffer);
+        let would_wait = reader.into_inner().would_wait();
+        let progress = match visited {
+            Visited::Onward | Visited::NotRead if would_wait => Progress::Waits,
+            Visited::Onward => Progress::MayGoOn,
+            Visited::NotRead | Visited::OutOfMemory => Progress::Failed,
+            Visited::NotWritten => after_write(&writer.into_inner()),
+            Visited::Ended => {
+                self.end(to);
+                Progress::Waits
+            }
+        };
+        Forwarded {
+            count,
+            has_ended: self.has_ended,
+            progress,
+        }
+    }
+}
+
+/// Returns the result of a write after which bytes wait.
+pub fn after_write<W>(writer: &Output<W>) -> Progress {
+    if writer.has_failed() {
+        Progress::Failed
+    } else if writer.would_wait() {
+        Progress::Waits
+    } else {
+        Progress::MayGoOn
+    }
+}
+
+/// Returns when a connection is visited next after a visit of both lanes, or `None` if it is visited again
+/// at once. `have_ended` says whether both sides have ended.
+pub fn next_of(one: Progress, other: Progress, have_ended: bool) -> Option<Next> {
+    match (one, other) {
+        (Progress::Failed, _) | (_, Progress::Failed) => Some(Next::Close),
+        (Progress::Waits, Progress::Waits) if have_ended => Some(Next::Close),
+        (Progress::Waits, Progress::Waits) => Some(Next::Wait),
+        _ => None,
+    }
+}

@@ -1,6 +1,0 @@
-use Rattle.std.proofs.Common.{◌-◌, drop}
-use Rattle.resp_nodes.specs.Plain.{BeginsWithLine}
-use Rattle.resp_nodes.proofs.heads.line_end.Given as goal
-
-abbrev pub invariant-loop-end : goal.invariant-loop-end
-invariant-loop-end l = BeginsWithLine (drop l.at l.buffer) (l.end - l.at) (drop l.end l.buffer)

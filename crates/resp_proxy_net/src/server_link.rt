@@ -1,0 +1,732 @@
+//! The connection of the proxy to the server.
+
+ghost use Rattle.std.specs.Prelude.{◌<◌, length};
+
+use crate::arrival::Arrival;
+use crate::entry::{Entry, EntryProgress, PING, words_of};
+use crate::pulse::Pulse;
+use memchr::memrchr;
+use mio::{Interest, Registry, Token};
+use resp_io::device::Device;
+use resp_join::ReplyError;
+use resp_mux::AnswerError;
+use resp_net::backend::{Attempt, Backend};
+use resp_net::non_blocking::{Input, Output, is_open};
+use resp_net::register::register;
+use resp_net::service::{FURTHER, shorter, token_of};
+use resp_net::spare::Spare;
+use resp_net::stream::Stream;
+use resp_proxy::{Proxy, ServerError, Setting, WriteOutcome};
+use resp_schedule::{Attempts, Phase};
+use std::alloc::{AllocError, Global};
+use std::fs::Files;
+use std::io::ErrorKind;
+use std::net::Net;
+use std::time::Duration;
+use std::{io, mem};
+use thiserror::Error;
+
+/// The maximum number of reads and writes of the server before clients are visited.
+const TURNS: usize = 16;
+
+/// The seconds after a lookup of the server's name before the next one.
+const LOOKED_UP: u64 = 10;
+
+/// The number of the first of the connections over which a silent server is asked. No service is
+/// told that a socket with such a number is ready: it only ends the wait, after which each of these
+/// connections continues.
+const ASKING: usize = FURTHER + 1;
+
+/// Why no connection was opened, if the server rejected AUTH.
+pub(crate) const REJECTED: &str = "the server rejected AUTH";
+
+/// Why no connection was opened, if the server rejected a command of another setting.
+pub(crate) const REFUSED: &str = "the server rejected AUTH, HELLO or SELECT";
+
+/// Why no connection was opened, if the server closed it during the login.
+pub(crate) const CLOSED: &str = "closed during AUTH";
+
+/// Why the connection to the server was lost.
+#[derive(Clone, Copy, Debug, PartialEq, Eq, Error)]
+pub(crate) enum Loss {
+    /// The server closed the connection.
+    #[error("closed by the server")]
+    Closed,
+    /// A read failed.
+    #[error("read failed")]
+    Read,
+    /// A write failed.
+    #[error("write failed")]
+    Write,
+    /// No reply came in time.
+    #[error("no reply in time")]
+    Silence,
+    /// The bytes of the server are not usable.
+    #[error(transparent)]
+    Server(ServerError),
+}
+
+impl Loss {
+    /// Returns whether the server sent a reply that no command waited for.
+    pub(crate) fn is_unasked(self) -> bool {
+        matches!(self, Loss::Server(error) if is_unasked(error))
+    }
+}
+
+/// The state of the connection to the server.
+#[derive(Drop)]
+enum LinkState {
+    /// There is no connection.
+    Down,
+    /// A connection is pending.
+    Opening(Stream),
+    /// The proxy logs in over the connection.
+    Greeting(Stream, Entry),
+    /// The connection is open.
+    Open(OpenConnection),
+}
+
+/// The progress of a connection that is not open yet.
+#[derive(Clone, Copy)]
+enum LinkStage {
+    /// There is none.
+    Closed,
+    /// The server has not accepted it.
+    Waits,
+    /// The server has accepted it.
+    Connected,
+    /// The proxy logs in.
+    LogsIn,
+}
+
+/// An open connection to the server.
+#[derive(Drop)]
+struct OpenConnection {
+    stream: Stream,
+    /// Whether a read may return bytes.
+    may_read: bool,
+    /// Whether the input may have ended.
+    is_at_end: bool,
+}
+
+/// The connection to the server, and when it is tried again.
+#[derive(Drop)]
+pub(crate) struct ServerLink {
+    alloc: Global,
+    backend: Backend,
+    /// The current attempt to connect, or the next one.
+    attempt: Attempt,
+    /// The number of the socket.
+    number: usize,
+    /// The setting of the connection.
+    setting: Setting,
+    /// The command AUTH of the proxy's own user, or empty.
+    login: Vec<u8>,
+    /// The reply of the server to HELLO, or empty.
+    hello: Vec<u8>,
+    /// The last error that the server sent although no command waited for a reply, or empty.
+    unasked: Vec<u8>,
+    spare: Spare,
+    state: LinkState,
+    /// When the connection is tried again, and when it is given up.
+    attempts: Attempts,
+    /// The second connection, over which a silent server is asked whether it is busy.
+    pulse: Pulse,
+    /// Whether the addresses of the server are looked up before the next attempt, if it has a name.
+    is_stale: bool,
+    /// The time of the last lookup.
+    looked_up: Duration,
+}
+
+impl ServerLink {
+    /// Returns a link to a server, before the first attempt to connect to it. `login` is the
+    /// command AUTH of the proxy's own user, or empty, and `number` is that of the socket.
+    pub(crate) fn new(
+        alloc: Global,
+        backend: Backend,
+        number: usize,
+        setting: Setting,
+        login: Vec<u8>,
+        patience: Duration,
+        spare: Spare,
+    ) -> Self {
+        let attempt = backend.first();
+        ServerLink {
+            alloc,
+            backend,
+            attempt,
+            number,
+            setting,
+            login,
+            hello: Vec::new(alloc),
+            unasked: Vec::new(alloc),
+            spare,
+            state: LinkState::Down,
+            attempts: Attempts::new(patience),
+            pulse: Pulse::new(),
+            is_stale: true,
+            looked_up: Duration::from_millis(0),
+        }
+    }
+
+    /// Returns the setting of the connection.
+    pub(crate) fn setting(&self) -> &Setting {
+        &self.setting
+    }
+
+    /// Sets the setting with which the next connection is opened. It differs at most in its
+    /// password.
+    pub(crate) fn set_setting(&mut self, setting: Setting) {
+        drop(mem::replace(&mut self.setting, setting));
+    }
+
+    /// Returns the reply of the server to HELLO, or an empty text.
+    pub(crate) fn hello(&self) -> &[u8] {
+        &self.hello
+    }
+
+    /// Returns whether the connection is open.
+    pub(crate) fn is_open(&self) -> bool {
+        self.attempts.is_open()
+    }
+
+    /// Uses a connection that is already open in this setting, if the link has none. `hello` is the
+    /// reply to HELLO over it.
+    ///
+    /// # Errors
+    ///
+    /// The error of the system. The connection is closed.
+    pub(crate) fn adopt(
+        &mut self,
+        stream: Stream,
+        hello: Vec<u8>,
+        registry: &Registry,
+    ) -> io::Result<()> {
+        let mut stream = stream;
+        let interests = Interest::READABLE | Interest::WRITABLE;
+        registry.reregister(&mut stream, token_of(self.number), interests)?;
+        self.hello = hello;
+        self.attempts.open();
+        self.set_state(LinkState::Open(OpenConnection::new(stream)));
+        Ok(())
+    }
+
+    /// Sets the state, and drops the previous one.
+    fn set_state(&mut self, state: LinkState) {
+        drop(mem::replace(&mut self.state, state));
+    }
+
+    /// Returns the state, and leaves `Down` in its place.
+    fn take_state(&mut self) -> LinkState {
+        mem::replace(&mut self.state, LinkState::Down)
+    }
+
+    /// Closes the connection. No other is opened before [`ServerLink::connect`].
+    pub(crate) fn close(&mut self) {
+        self.attempts.stop();
+        self.set_state(LinkState::Down);
+    }
+
+    /// Returns the entry of a new connection into the setting.
+    ///
+    /// # Errors
+    ///
+    /// `AllocError` if an allocation fails.
+    pub(crate) fn entry(&self) -> Result<Entry, AllocError> {
+        Entry::new(self.alloc, &self.setting, &self.login)
+    }
+
+    /// Returns the server.
+    pub(crate) fn backend(&self) -> &Backend {
+        &self.backend
+    }
+
+    /// Returns the command AUTH of the proxy's own user, or an empty text.
+    pub(crate) fn login(&self) -> &[u8] {
+        &self.login
+    }
+
+    /// Notes the current time.
+    pub(crate) fn set_now(&mut self, now: Duration) {
+        self.attempts.time = now;
+    }
+
+    /// Returns the current time.
+    pub(crate) fn now(&self) -> Duration {
+        self.attempts.time
+    }
+
+    /// Opens the spare descriptor again, if it is closed and one is left.
+    pub(crate) fn keep_spare(&mut self, net: &impl Net) {
+        self.spare.keep(net);
+    }
+
+    /// Returns whether no connection is open or pending.
+    pub(crate) fn is_down(&self) -> bool {
+        self.attempts.is_down()
+    }
+
+    /// Returns the time until the link has work to do although its socket is not ready. `waits`
+    /// says whether a command waits for a reply.
+    pub(crate) fn patience(&self, waits: bool) -> Option<Duration> {
+        match &self.state {
+            LinkState::Open(line) if line.may_read => Some(Duration::from_millis(0)),
+            _ => shorter(self.attempts.time_left(waits), self.time_to_ask(waits)),
+        }
+    }
+
+    /// Returns since when no reply has come, if a command has waited since then. `waits` says
+    /// whether a command waits for a reply now.
+    fn silent_since(&self, waits: bool) -> Option<Duration> {
+        match self.attempts.phase {
+            Phase::Open(quiet) if waits && quiet.waited && !quiet.replied => Some(quiet.since),
+            _ => None,
+        }
+    }
+
+    /// Returns the time until the server is asked whether it is busy: half of the patience after the
+    /// beginning of a silence.
+    fn time_to_ask(&self, waits: bool) -> Option<Duration> {
+        let since = self.silent_since(waits)?;
+        if self.pulse.was_asked(since) {
+            return None;
+        }
+        let half = half_of(self.attempts.patience);
+        Some(since.saturating_add(half).saturating_sub(self.now()))
+    }
+
+    /// Asks a silent server over a second connection whether it is busy, or continues to ask.
+    /// Returns the words of the server if it is busy.
+    pub(crate) fn ask(&mut self, net: &impl Net, registry: &Registry, waits: bool) -> Option<&str> {
+        match self.silent_since(waits) {
+            Some(since) => {
+                if self.time_to_ask(waits) == Some(Duration::from_millis(0)) {
+                    let arrival = self.begin_to_ask(net, registry).ok();
+                    self.pulse.ask(since, arrival);
+                }
+                self.pulse.go_on();
+            }
+            None => self.pulse.end(),
+        }
+        self.pulse.busy()
+    }
+
+    /// Starts a second connection to the server, for PING.
+    fn begin_to_ask(&self, net: &impl Net, registry: &Registry) -> io::Result<Box<Arrival>> {
+        let Ok(mut entry) = self.entry() else {
+            return Err(ErrorKind::OutOfMemory.into());
+        };
+        if entry.ask(PING).is_err() {
+            drop(entry);
+            return Err(ErrorKind::OutOfMemory.into());
+        }
+        let token = token_of(self.number.saturating_add(ASKING));
+        let arrival = Arrival::begin(net, &self.backend, registry, token, entry)?;
+        match Box::new(self.alloc, arrival) {
+            Ok(arrival) => Ok(arrival),
+            Err(failed) => {
+                drop(failed.value);
+                Err(ErrorKind::OutOfMemory.into())
+            }
+        }
+    }
+
+    /// Continues to wait for a busy server, as if a reply had come.
+    pub(crate) fn bear(&mut self) {
+        self.pulse.end();
+        self.attempts.note_replies();
+    }
+
+    /// Notes that the socket is ready.
+    pub(crate) fn note_ready(&mut self, is_at_end: bool) {
+        if let LinkState::Open(line) = &mut self.state {
+            line.may_read = true;
+            line.is_at_end = line.is_at_end || is_at_end;
+        }
+    }
+
+    /// Starts to connect to the server, if there is no connection and the pause is over.
+    ///
+    /// # Errors
+    ///
+    /// The error of the system. The next attempt is made after a pause.
+    pub(crate) fn connect<R: Net + Files>(
+        &mut self,
+        net: &R,
+        registry: &Registry,
+    ) -> io::Result<()> {
+        if !self.attempts.may_begin() {
+            return Ok(());
+        }
+        if let Err(error) = self.look_up(net) {
+            self.pause();
+            return Err(error);
+        }
+        let token = token_of(self.number);
+        match open(
+            &mut self.spare,
+            net,
+            &self.backend,
+            self.attempt,
+            registry,
+            token,
+        ) {
+            Ok((stream, attempt)) => {
+                self.attempt = attempt;
+                self.attempts.begin();
+                self.set_state(LinkState::Opening(stream));
+                Ok(())
+            }
+            Err(error) => {
+                self.pause();
+                Err(error)
+            }
+        }
+    }
+
+    /// Looks up the addresses of the server if it has a name, and no address is known, or no address
+    /// could be connected to and the last lookup was at least ten seconds ago.
+    fn look_up<R: Net + Files>(&mut self, rt: &R) -> io::Result<()> {
+        let until = self
+            .looked_up
+            .saturating_add(Duration::from_secs(LOOKED_UP));
+        let is_over = until.saturating_sub(self.now()).is_zero();
+        if !self.backend.is_at_host() || !self.backend.is_empty() && !(self.is_stale && is_over) {
+            return Ok(());
+        }
+        self.looked_up = self.now();
+        self.backend.look_up(rt, self.alloc)?;
+        self.attempt = self.backend.first();
+        self.is_stale = false;
+        Ok(())
+    }
+
+    /// Continues to open the pending connection, and to log in over it. Returns whether this call
+    /// has opened it.
+    ///
+    /// # Errors
+    ///
+    /// The error of the system, an error of kind `TimedOut`, or an error of kind `PermissionDenied`
+    /// if the server rejected the login. The next attempt is made after a pause.
+    pub(crate) fn finish_connecting(&mut self) -> io::Result<bool> {
+        let stage = self.stage();
+        match stage {
+            Ok(LinkStage::Closed | LinkStage::Waits) => Ok(false),
+            Ok(LinkStage::Connected) => {
+                self.greet()?;
+                self.finish_login()
+            }
+            Ok(LinkStage::LogsIn) => self.finish_login(),
+            Err(error) => self.try_next(error),
+        }
+    }
+
+    /// Tries the next address of the server at once, if this was not the last one.
+    ///
+    /// # Errors
+    ///
+    /// The error that the attempt failed with. The next attempt is made after a pause.
+    fn try_next(&mut self, error: io::Error) -> io::Result<bool> {
+        let was_opening = matches!(self.state, LinkState::Opening(_));
+        match self.backend.after(self.attempt) {
+            Some(next) if was_opening => {
+                self.attempt = next;
+                self.attempts.begin_again();
+                self.set_state(LinkState::Down);
+                Ok(false)
+            }
+            _ => {
+                self.is_stale = true;
+                self.pause();
+                Err(error)
+            }
+        }
+    }
+
+    /// Returns the progress of the connection.
+    fn stage(&self) -> io::Result<LinkStage> {
+        match &self.state {
+            LinkState::Opening(stream) => {
+                if is_open(stream)? {
+                    return Ok(LinkStage::Connected);
+                }
+                self.in_time()?;
+                Ok(LinkStage::Waits)
+            }
+            LinkState::Greeting(..) => {
+                self.in_time()?;
+                Ok(LinkStage::LogsIn)
+            }
+            _ => Ok(LinkStage::Closed),
+        }
+    }
+
+    /// Fails if a pending connection is not open in time.
+    fn in_time(&self) -> io::Result<()> {
+        if self.attempts.is_late() {
+            return Err(ErrorKind::TimedOut.into());
+        }
+        Ok(())
+    }
+
+    /// Continues to log in. Returns whether this call has opened the connection.
+    fn finish_login(&mut self) -> io::Result<bool> {
+        let LinkState::Greeting(stream, entry) = &mut self.state else {
+            return Ok(false);
+        };
+        match entry.go_on(stream) {
+            EntryProgress::Waits => Ok(false),
+            EntryProgress::Accepted => {
+                self.start();
+                Ok(true)
+            }
+            EntryProgress::Rejected => {
+                let why = if self.number == 0 { REJECTED } else { REFUSED };
+                let error = entry.rejection(why);
+                self.pause();
+                Err(error)
+            }
+            EntryProgress::Failed => {
+                self.pause();
+                Err(io::Error::new(ErrorKind::ConnectionAborted, CLOSED))
+            }
+        }
+    }
+
+    /// Starts to log in over the pending connection.
+    ///
+    /// # Errors
+    ///
+    /// An error of kind `OutOfMemory` if an allocation fails. The next attempt is made after a
+    /// pause.
+    fn greet(&mut self) -> io::Result<()> {
+        let Ok(entry) = self.entry() else {
+            self.pause();
+            return Err(ErrorKind::OutOfMemory.into());
+        };
+        match self.take_state() {
+            LinkState::Opening(stream) => self.set_state(LinkState::Greeting(stream, entry)),
+            state => {
+                drop(state);
+                drop(entry);
+            }
+        }
+        Ok(())
+    }
+
+    /// Makes the pending connection an open one.
+    fn start(&mut self) {
+        match self.take_state() {
+            LinkState::Greeting(stream, entry) => {
+                self.backend.prefer(self.attempt);
+                self.keep_hello(&entry);
+                drop(entry);
+                self.attempts.open();
+                self.set_state(LinkState::Open(OpenConnection::new(stream)));
+            }
+            state => drop(state),
+        }
+    }
+
+    /// Keeps the reply to HELLO, if there is memory for it.
+    fn keep_hello(&mut self, entry: &Entry) {
+        if let Ok(hello) = entry.hello().to_vec(self.alloc) {
+            self.hello = hello;
+        }
+    }
+
+    /// Closes the connection. The next attempt is made after a pause, or at once if a reply came
+    /// over this connection. It begins with the last address that accepted a connection.
+    fn pause(&mut self) {
+        self.attempt = self.backend.first();
+        self.attempts.lose();
+        self.set_state(LinkState::Down);
+    }
+
+    /// Reads replies and writes commands until each call would block, or 16 of each were made.
+    ///
+    /// # Errors
+    ///
+    /// Why the connection was lost. It is closed.
+    pub(crate) fn exchange(&mut self, proxy: &mut Proxy, buffer: &mut [u8]) -> Result<(), Loss>
+        requires { 0 < length buffer.old }
+    {
+        let LinkState::Open(line) = &mut self.state else {
+            return Ok(());
+        };
+        let before = proxy.waiting();
+        let exchanged = line.exchange(proxy, buffer, &mut self.unasked);
+        if proxy.waiting() < before {
+            self.attempts.note_replies();
+        }
+        if exchanged.is_err() {
+            self.pause();
+        }
+        exchanged
+    }
+
+    /// Returns the text of the error that the server sent while no command waited for a reply,
+    /// before the connection was lost. The text is empty if the server sent no such error.
+    pub(crate) fn unasked(&self) -> &str {
+        words_of(&self.unasked)
+    }
+
+    /// Gives up the connection if commands wait and no reply has come for too long. `waits` says
+    /// whether a command waits for a reply.
+    ///
+    /// # Errors
+    ///
+    /// `Silence` if the connection was given up.
+    pub(crate) fn judge(&mut self, waits: bool) -> Result<(), Loss> {
+        if self.attempts.gives_up(waits) {
+            self.pause();
+            return Err(Loss::Silence);
+        }
+        Ok(())
+    }
+
+    /// Writes commands until a write would block, or 16 were made.
+    ///
+    /// # Errors
+    ///
+    /// Why the connection was lost. It is closed.
+    pub(crate) fn send(&mut self, proxy: &mut Proxy) -> Result<(), Loss> {
+        let LinkState::Open(line) = &mut self.state else {
+            return Ok(());
+        };
+        let sent = line.send(proxy);
+        if sent.is_err() {
+            self.pause();
+        }
+        sent
+    }
+}
+
+impl OpenConnection {
+    /// Returns a connection over which no command was sent.
+    fn new(stream: Stream) -> Self {
+        OpenConnection {
+            stream,
+            may_read: true,
+            is_at_end: true,
+        }
+    }
+
+    /// Reads replies and writes commands until each call would block, or 16 of each were made. Sets
+    /// `unasked` to an error of the server that is the reply to no command.
+    fn exchange(
+        &mut self,
+        proxy: &mut Proxy,
+        buffer: &mut [u8],
+        unasked: &mut Vec<u8>,
+    ) -> Result<(), Loss>
+        requires { 0 < length buffer.old }
+    {
+        for _ in 0..TURNS {
+            if !self.may_read {
+                break;
+            }
+            self.visit(proxy, buffer, unasked)?;
+        }
+        self.send(proxy)
+    }
+
+    /// Makes one read and at most one write.
+    fn visit(
+        &mut self,
+        proxy: &mut Proxy,
+        buffer: &mut [u8],
+        unasked: &mut Vec<u8>,
+    ) -> Result<(), Loss>
+        requires { 0 < length buffer.old }
+    {
+        let stream = &self.stream;
+        self.may_read = exchange(proxy, stream, stream, self.is_at_end, buffer, unasked)?;
+        Ok(())
+    }
+
+    /// Writes commands until a write would block, or 16 were made.
+    fn send(&mut self, proxy: &mut Proxy) -> Result<(), Loss> {
+        for _ in 0..TURNS {
+            let mut writer = Device::new(Output::new(&self.stream));
+            let written = proxy.send(&mut writer);
+            let writer = writer.into_inner();
+            if writer.has_failed() {
+                return Err(Loss::Write);
+            }
+            if written == WriteOutcome::All || writer.would_wait() {
+                return Ok(());
+            }
+        }
+        Ok(())
+    }
+}
+
+/// Reads bytes of the server from the reader, and writes bytes that wait for it to the writer.
+/// Returns whether another read may return bytes.
+fn exchange(
+    proxy: &mut Proxy,
+    reader: &Stream,
+    writer: &Stream,
+    is_at_end: bool,
+    buffer: &mut [u8],
+    unasked: &mut Vec<u8>,
+) -> Result<bool, Loss>
+    requires { 0 < length buffer.old }
+{
+    let mut reader = Device::new(Input::new(reader, is_at_end));
+    let mut writer = Device::new(Output::new(writer));
+    let visit = proxy.visit_server(&mut reader, &mut writer, buffer);
+    proxy.settle_probes();
+    let is_dry = reader.into_inner().would_wait();
+    if writer.into_inner().has_failed() {
+        return Err(Loss::Write);
+    }
+    match (visit.end, visit.read) {
+        (Err(error), read) => {
+            if is_unasked(error) {
+                keep_last_line(unasked, &buffer[..buffer.len().min(read.unwrap_or(0))]);
+            }
+            Err(Loss::Server(error))
+        }
+        (Ok(()), Some(0)) => Err(Loss::Closed),
+        (Ok(()), None) if !is_dry => Err(Loss::Read),
+        _ => Ok(!is_dry),
+    }
+}
+
+/// Returns whether the server sent a reply that no command waits for.
+fn is_unasked(error: ServerError) -> bool {
+    error == ServerError::Reply(ReplyError::Answer(AnswerError::Unasked))
+}
+
+/// Keeps the last line of some bytes of the server, if there is memory for it. Otherwise nothing is kept.
+fn keep_last_line(kept: &mut Vec<u8>, bytes: &[u8]) {
+    let bytes = bytes.strip_suffix(b"\r\n").unwrap_or(bytes);
+    let begin = match memrchr(b'\n', bytes) {
+        Some(place) => place.saturating_add(1),
+        None => 0,
+    };
+    kept.clear();
+    let _ = kept.extend_from_slice(bytes.get(begin..).unwrap_or(b""));
+}
+
+/// Returns half of a time, in whole milliseconds.
+fn half_of(time: Duration) -> Duration {
+    let of_seconds = time.as_secs().saturating_mul(500);
+    Duration::from_millis(of_seconds.saturating_add(u64::from(time.subsec_millis() / 2)))
+}
+
+/// Starts a connection to a server with this attempt or a later one, and registers its socket.
+fn open(
+    spare: &mut Spare,
+    net: &impl Net,
+    backend: &Backend,
+    attempt: Attempt,
+    registry: &Registry,
+    token: Token,
+) -> io::Result<(Stream, Attempt)> {
+    let (mut stream, attempt) = backend.connect(spare, net, attempt)?;
+    register(&mut stream, registry, token)?;
+    Ok((stream, attempt))
+}

@@ -1,8 +1,0 @@
-mod Members
-mod Groups
-mod Standing
-mod Hearing
-mod Heard
-mod Values
-mod Loops
-mod PlacesRead

@@ -1,7 +1,0 @@
-use Rattle.std.proofs.Common.{ℕ, List, map, take, Bor}
-use Rattle.std.specs.Prelude.{All}
-use Rattle.resp_script.specs.ScriptSteps.{IsWord}
-use Rattle.resp_script.proofs.script.words.first_fault.Given as goal
-
-abbrev pub invariant-loop-word : goal.invariant-loop-word
-invariant-loop-word l = All IsWord (take l.word-index (map (λ (word : Bor (List ℕ)). word.now) l.words))

@@ -1,0 +1,5 @@
+pub mod RangeLemmas
+pub mod CountLemmas
+pub mod HistogramLemmas
+pub mod NameLemmas
+pub mod RowLemmas

@@ -1,0 +1,4 @@
+pub mod Ranges
+pub mod Times
+pub mod Names
+pub mod Rows

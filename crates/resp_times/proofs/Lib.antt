@@ -1,3 +1,0 @@
-pub mod RangeLemmas
-pub mod CountLemmas
-pub mod HistogramLemmas

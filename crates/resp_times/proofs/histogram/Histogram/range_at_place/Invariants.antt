@@ -1,8 +1,0 @@
-use Rattle.std.proofs.Common.{◌≡◌, ◌<◌, ◌^◌, ℕ, List, length}
-use Rattle.resp_times.specs.Ranges.{start_of}
-use Rattle.resp_times.specs.Times.{HasTimes, count_below}
-use Rattle.resp_times.proofs.histogram.Histogram.range_at_place.Given as goal
-
-abbrev pub invariant-loop-range : goal.invariant-loop-range
-invariant-loop-range l = ((times : List ℕ) → HasTimes l.self times → length times < 2 ^ 64 →
-    l.count ≡ count_below (start_of l.range) times) × (0 < l.place → l.count < l.place)

@@ -1,0 +1,274 @@
+//! Parts that test a proxy. After a failed allocation the client or the connection to the server is
+//! closed, and the other clients go on.
+
+use crate::outcome::Outcome;
+use resp_io::MemorySink;
+use resp_mux::OpenError;
+use resp_proxy::{Client, ClientError, Proxy, ServerError, Setting, Settings, next_wish};
+use std::alloc::{AllocError, Global};
+
+const PING: &[u8] = b"*1\r\n$4\r\nPING\r\n";
+
+/// SELECT, and a command behind it.
+const MOVES: &[u8] = b"*2\r\n$6\r\nSELECT\r\n$1\r\n7\r\n*1\r\n$4\r\nPING\r\n";
+
+/// The number of bytes of SELECT.
+const SELECT: usize = 23;
+
+/// Returns a proxy with two clients.
+fn two_clients(alloc: Global) -> Result<(Proxy, Client, Client), AllocError> {
+    let mut proxy = Proxy::new(alloc, Settings::standard())?;
+    let (Ok(first), Ok(second)) = (proxy.open(), proxy.open()) else {
+        return Err(AllocError);
+    };
+    Ok((proxy, first, second))
+}
+
+/// Returns whether a client whose command could not be taken is closing, and whether the other
+/// client goes on.
+fn goes_on(proxy: &mut Proxy, closed: &Client, other: &mut Client) -> bool {
+    let waiting = proxy.waiting();
+    let taken = proxy.from_client(other, PING);
+    closed.is_closing() && taken.is_ok() && proxy.waiting() == waiting + 1
+}
+
+pub(crate) fn of_open(alloc: Global) -> Outcome {
+    let Ok(mut proxy) = Proxy::new(alloc, Settings::standard()) else {
+        return Outcome::OutOfMemory;
+    };
+    for _ in 0..9 {
+        match proxy.open() {
+            Ok(client) => {
+                if client.is_closing() {
+                    return Outcome::Wrong;
+                }
+            }
+            Err(OpenError::OutOfMemory) => return Outcome::refused(proxy.open().is_ok()),
+            Err(_) => return Outcome::Wrong,
+        }
+    }
+    Outcome::Whole
+}
+
+/// A command that is queued, a reply of the proxy itself, an error with a name, and a command that
+/// has begun.
+pub(crate) fn of_client(alloc: Global) -> Outcome {
+    of_pieces(
+        alloc,
+        [
+            PING,
+            b"*2\r\n$6\r\nCLIENT\r\n$2\r\nID\r\n",
+            b"*1\r\n$5\r\nDEBUG\r\n",
+            b"*1\r\n$4\r\nPI",
+        ],
+    )
+}
+
+/// The same as lines.
+pub(crate) fn of_lines(alloc: Global) -> Outcome {
+    of_pieces(
+        alloc,
+        [
+            b"ECHO \"a b\"\r\n",
+            b"CLIENT ID\r\n",
+            b"\r\nDEBUG\r\n*0\r\n",
+            b"PI",
+        ],
+    )
+}
+
+/// A client sends four pieces, which have one command for the server.
+fn of_pieces(alloc: Global, pieces: [&[u8]; 4]) -> Outcome {
+    let Ok((mut proxy, mut first, mut second)) = two_clients(alloc) else {
+        return Outcome::OutOfMemory;
+    };
+    for piece in pieces {
+        match proxy.from_client(&mut first, piece) {
+            Ok(()) => {}
+            Err(ClientError::OutOfMemory | ClientError::Protocol(_)) => {
+                return Outcome::refused(goes_on(&mut proxy, &first, &mut second));
+            }
+            Err(_) => return Outcome::Wrong,
+        }
+    }
+    Outcome::of(proxy.waiting() == 1 && !first.is_closing())
+}
+
+/// A client whose second command needs a connection of its own, in three pieces. It gets this
+/// connection after the reply to the first one.
+pub(crate) fn of_leaving(alloc: Global) -> Outcome {
+    let Ok((mut proxy, mut first, mut second)) = two_clients(alloc) else {
+        return Outcome::OutOfMemory;
+    };
+    proxy.admit_own(true);
+    for piece in [
+        PING,
+        b"*1\r\n$5\r\nMU".as_slice(),
+        b"LTI\r\n*1\r\n".as_slice(),
+        b"$4\r\nEXEC\r\n".as_slice(),
+    ] {
+        match proxy.from_client(&mut first, piece) {
+            Ok(()) => {}
+            Err(ClientError::OutOfMemory | ClientError::Protocol(_)) => {
+                return Outcome::refused(goes_on(&mut proxy, &first, &mut second));
+            }
+            Err(_) => return Outcome::Wrong,
+        }
+    }
+    if proxy.may_leave(&first) || !first.is_leaving() {
+        return Outcome::Wrong;
+    }
+    if pong(alloc, &mut proxy, &first).is_err() {
+        return Outcome::OutOfMemory;
+    }
+    if !proxy.may_leave(&first) {
+        return Outcome::Wrong;
+    }
+    let Ok(departed) = proxy.leave(first) else {
+        return Outcome::Wrong;
+    };
+    Outcome::of(departed.rest() == b"*1\r\n$5\r\nMULTI\r\n*1\r\n$4\r\nEXEC\r\n".as_slice())
+}
+
+/// A client moves to another proxy, and gets the reply to its command and the name that it had.
+/// Without memory it is lost, and the other client of that proxy goes on.
+pub(crate) fn of_moving(alloc: Global) -> Outcome {
+    let Ok((mut proxy, mut first, _)) = two_clients(alloc) else {
+        return Outcome::OutOfMemory;
+    };
+    let Ok((mut other, closed, mut second)) = two_clients(alloc) else {
+        return Outcome::OutOfMemory;
+    };
+    proxy.admit_own(true);
+    if proxy.from_client(&mut first, MOVES).is_err() {
+        return Outcome::OutOfMemory;
+    }
+    let Ok(mut departed) = proxy.leave(first) else {
+        return Outcome::Wrong;
+    };
+    departed.skip(SELECT.min(departed.rest().len()));
+    match other.enter(departed, b"+OK\r\n") {
+        Ok(client) => Outcome::of(client.id() != second.id() && other.numbers().clients == 3),
+        Err(OpenError::OutOfMemory) => {
+            other.close(closed);
+            let taken = other.from_client(&mut second, PING);
+            Outcome::refused(taken.is_ok() && other.numbers().clients == 1)
+        }
+        Err(_) => Outcome::Wrong,
+    }
+}
+
+/// The setting after SELECT, and its commands for a new connection.
+pub(crate) fn of_setting(alloc: Global) -> Outcome {
+    match commands_of_setting(alloc) {
+        Ok(commands) => Outcome::of(commands.as_slice() == &MOVES[..SELECT]),
+        Err(AllocError) => Outcome::OutOfMemory,
+    }
+}
+
+fn commands_of_setting(alloc: Global) -> Result<Vec<u8>, AllocError> {
+    let first = Setting::first(alloc)?;
+    let mut commands = Vec::new(alloc);
+    if let Some(asking) = next_wish(MOVES, &Settings::standard().limits) {
+        if let Some(setting) = first.after(alloc, asking.wish)? {
+            let copy = setting.copy(alloc)?;
+            let _ = copy.commands(b"", &mut commands)?;
+        }
+    }
+    Ok(commands)
+}
+
+/// Sends the commands that wait, of which the first is PING, and gives the client the reply to it.
+fn pong(alloc: Global, proxy: &mut Proxy, client: &Client) -> Result<(), AllocError> {
+    let mut server = MemorySink::new(alloc, 100, 100)?;
+    let _ = proxy.send(&mut server);
+    if proxy.from_server(b"+PONG\r\n").is_err() {
+        return Err(AllocError);
+    }
+    let mut writer = MemorySink::new(alloc, 100, 100)?;
+    let _ = proxy.give(client, &mut writer);
+    Ok(())
+}
+
+/// Returns whether each of these clients was replied to if bytes wait for it.
+fn is_told(alloc: Global, proxy: &mut Proxy, clients: [&Client; 2]) -> Result<bool, AllocError> {
+    let mut told = Vec::new(alloc);
+    while let Some(who) = proxy.next_replied() {
+        told.push(who)?;
+    }
+    let mut is_told = true;
+    for client in clients {
+        let mut writer = MemorySink::new(alloc, 100, 100)?;
+        let _ = proxy.give(client, &mut writer);
+        is_told &= writer.bytes().is_empty() || told.contains(&client.id());
+    }
+    Ok(is_told)
+}
+
+/// A reply, and the loss of the connection while a command waits.
+pub(crate) fn of_server(alloc: Global) -> Outcome {
+    let Ok((mut proxy, mut first, mut second)) = two_clients(alloc) else {
+        return Outcome::OutOfMemory;
+    };
+    for client in [&mut first, &mut second] {
+        if proxy.from_client(client, PING).is_err() {
+            return Outcome::OutOfMemory;
+        }
+    }
+    let Ok(mut server) = MemorySink::new(alloc, 100, 100) else {
+        return Outcome::OutOfMemory;
+    };
+    let _ = proxy.send(&mut server);
+    let mut refused = proxy.from_server(b"+PONG\r\n+P").is_err();
+    if proxy.lose().is_err() {
+        refused = true;
+        if proxy.lose().is_err() {
+            return Outcome::Wrong;
+        }
+    }
+    let Ok(is_told) = is_told(alloc, &mut proxy, [&first, &second]) else {
+        return Outcome::OutOfMemory;
+    };
+    let holds = is_told && proxy.waiting() == 0 && proxy.from_client(&mut first, PING).is_ok();
+    if refused {
+        Outcome::refused(holds)
+    } else {
+        Outcome::of(holds)
+    }
+}
+
+/// A probe, whose reply is expected only if the probe was queued.
+pub(crate) fn of_probe(alloc: Global) -> Outcome {
+    let Ok(mut proxy) = Proxy::new(alloc, Settings::standard()) else {
+        return Outcome::OutOfMemory;
+    };
+    let mut refused = proxy.open_prober().is_err();
+    if refused && proxy.open_prober().is_err() {
+        return Outcome::Wrong;
+    }
+    if proxy.probe(&[b'x'; 32]).is_err() {
+        refused = true;
+        if proxy.waiting() != 0 || proxy.probe(&[b'y'; 32]).is_err() {
+            return Outcome::Wrong;
+        }
+    }
+    let Ok(mut server) = MemorySink::new(alloc, 100, 100) else {
+        return Outcome::OutOfMemory;
+    };
+    let _ = proxy.send(&mut server);
+    let Some(word) = server.bytes().get(19..) else {
+        return Outcome::Wrong;
+    };
+    let taken = match proxy.from_server(b"$32\r\n") {
+        Ok(()) => proxy.from_server(word),
+        Err(error) => Err(error),
+    };
+    proxy.settle_probes();
+    match taken {
+        Ok(()) if proxy.waiting() == 0 && refused => Outcome::OutOfMemory,
+        Ok(()) if proxy.waiting() == 0 => Outcome::Whole,
+        Ok(()) | Err(ServerError::OutOfStep) => Outcome::Wrong,
+        // The reply is lost with its connection.
+        Err(_) => Outcome::refused(!refused && proxy.lose().is_ok() && proxy.waiting() == 0),
+    }
+}

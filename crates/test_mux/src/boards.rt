@@ -1,0 +1,262 @@
+//! Boards with a few clients and lines, compared with lists of answers and of commands.
+
+use crate::draw::Draw;
+use crate::replay::Expected;
+use resp_board::{AskError, Board, ClientId, LineId};
+use std::alloc::{AllocError, Global};
+
+/// The number of clients that are open at a time, and of lines.
+const CLIENTS: usize = 5;
+
+const LINES: usize = 3;
+
+/// The length of a command.
+const LENGTH: usize = 3;
+
+/// A command that waits on a line: its client, counted from the first that was opened, and its number.
+#[derive(Clone, Copy)]
+struct Waiting {
+    client: usize,
+    number: usize,
+}
+
+/// A line: its commands for the present connection, how many of them have a reply, and how many bytes
+/// were sent. Each command is `LENGTH` bytes.
+#[derive(Drop)]
+struct Row {
+    id: LineId,
+    commands: Vec<Waiting>,
+    replied: usize,
+    sent: usize,
+}
+
+/// The clients and lines of a board.
+#[derive(Drop)]
+struct World {
+    alloc: Global,
+    board: Board,
+    /// All clients that were opened.
+    ids: Vec<ClientId>,
+    expected: Vec<Expected>,
+    /// The places in `ids` of the clients that are open.
+    seats: Vec<usize>,
+    rows: Vec<Row>,
+    wrong: u64,
+}
+
+/// Runs this many events, and returns how often the board and the lists disagreed, and how many
+/// connections were lost.
+pub(crate) fn run(alloc: Global, seed: u64, events: u64) -> Result<(u64, u64), AllocError> {
+    let mut draw = Draw::new(seed);
+    let mut world = World::new(alloc)?;
+    let mut lost = 0;
+    for event in 0..events {
+        let seat = draw.below(CLIENTS as u64) as usize;
+        let row = draw.below(LINES as u64) as usize;
+        match draw.below(32) {
+            0..10 => world.ask(seat, row)?,
+            10..12 => world.own(seat, event)?,
+            12..18 => world.send(row, draw.below(10) as usize),
+            18..25 => world.reply(row, event)?,
+            25..29 => world.give(seat, draw.below(9) as usize)?,
+            29 => world.change(seat)?,
+            30 => {
+                world.lose(row)?;
+                lost += 1;
+            }
+            _ => {
+                if event % 4 == 0 {
+                    world.fail(row)?;
+                }
+            }
+        }
+        world.compare(seat, row)?;
+    }
+    Ok((world.wrong, lost))
+}
+
+impl World {
+    fn new(alloc: Global) -> Result<World, AllocError> {
+        let mut world = World {
+            alloc,
+            board: Board::new(alloc),
+            ids: Vec::new(alloc),
+            expected: Vec::new(alloc),
+            seats: Vec::new(alloc),
+            rows: Vec::new(alloc),
+            wrong: 0,
+        };
+        for _ in 0..CLIENTS {
+            let opened = world.open()?;
+            world.seats.push(opened).map_err(|_| AllocError)?;
+        }
+        for _ in 0..LINES {
+            let row = Row {
+                id: world.board.open_line()?,
+                commands: Vec::new(alloc),
+                replied: 0,
+                sent: 0,
+            };
+            world.rows.push(row).map_err(|_| AllocError)?;
+        }
+        Ok(world)
+    }
+
+    /// Opens a client, and returns its place in `ids`.
+    fn open(&mut self) -> Result<usize, AllocError> {
+        let id = self.board.open().map_err(|_| AllocError)?;
+        if self.ids.iter().any(|other| *other == id) {
+            self.wrong += 1;
+        }
+        self.ids.push(id).map_err(|_| AllocError)?;
+        self.expected
+            .push(Expected::new(self.alloc))
+            .map_err(|_| AllocError)?;
+        Ok(self.ids.len() - 1)
+    }
+
+    /// A client is closed, and another one takes its place.
+    fn change(&mut self, seat: usize) -> Result<(), AllocError> {
+        let closed = self.ids[self.seats[seat]];
+        self.board.close(closed);
+        let known = self.board.to_client(closed).is_some();
+        let refused = self.board.ask(closed, self.rows[0].id, b"no\n") == Err(AskError::NoClient);
+        self.wrong += u64::from(known || !refused);
+        let opened = self.open()?;
+        self.seats[seat] = opened;
+        Ok(())
+    }
+
+    fn ask(&mut self, seat: usize, row: usize) -> Result<(), AllocError> {
+        let client = self.seats[seat];
+        let number = self.expected[client].answers.len();
+        let text = [(client % 256) as u8, (number % 256) as u8, b'\n'];
+        let line = self.rows[row].id;
+        self.board
+            .ask(self.ids[client], line, &text)
+            .map_err(|_| AllocError)?;
+        self.expected[client]
+            .answers
+            .push(None)
+            .map_err(|_| AllocError)?;
+        self.rows[row]
+            .commands
+            .push(Waiting { client, number })
+            .map_err(|_| AllocError)
+    }
+
+    fn own(&mut self, seat: usize, event: u64) -> Result<(), AllocError> {
+        let client = self.seats[seat];
+        let text = [b'+', (event % 256) as u8, b'\n'];
+        self.board
+            .own(self.ids[client], &text)
+            .map_err(|_| AllocError)?;
+        let answer = Vec::from_slice(self.alloc, &text)?;
+        self.expected[client]
+            .answers
+            .push(Some(answer))
+            .map_err(|_| AllocError)
+    }
+
+    /// Some of the bytes that wait are sent over a line.
+    fn send(&mut self, row: usize, most: usize) {
+        let line = self.rows[row].id;
+        let count = self.board.to_server(line).len().min(most);
+        self.board.sent(line, count);
+        self.rows[row].sent += count;
+    }
+
+    fn reply(&mut self, row: usize, event: u64) -> Result<(), AllocError> {
+        let text = [b':', (event % 256) as u8, (event / 256) as u8, b'\n'];
+        let begun = self.begun(row);
+        let answered = self.board.reply(self.rows[row].id, &text);
+        if begun == 0 {
+            self.wrong += u64::from(answered.is_ok());
+            return Ok(());
+        }
+        let first = self.rows[row].commands[self.rows[row].replied];
+        if answered != Ok(self.ids[first.client]) {
+            self.wrong += 1;
+        }
+        self.rows[row].replied += 1;
+        self.answer(first, &text)
+    }
+
+    /// Notes the answer to a command.
+    fn answer(&mut self, command: Waiting, text: &[u8]) -> Result<(), AllocError> {
+        let answer = Vec::from_slice(self.alloc, text)?;
+        self.expected[command.client].answers[command.number] = Some(answer);
+        Ok(())
+    }
+
+    fn give(&mut self, seat: usize, most: usize) -> Result<(), AllocError> {
+        let client = self.seats[seat];
+        let id = self.ids[client];
+        let Some(text) = self.board.to_client(id) else {
+            self.wrong += 1;
+            return Ok(());
+        };
+        let count = text.len().min(most);
+        self.expected[client].got.extend_from_slice(&text[..count])?;
+        self.board.given(id, count);
+        Ok(())
+    }
+
+    /// Returns how many commands of a line that have no reply had a byte sent.
+    fn begun(&self, row: usize) -> usize {
+        self.rows[row].sent.div_ceil(LENGTH) - self.rows[row].replied
+    }
+
+    /// The connection of a line is lost.
+    fn lose(&mut self, row: usize) -> Result<(), AllocError> {
+        let begun = self.begun(row);
+        self.board.lose(self.rows[row].id, b"-lost\n")?;
+        self.begin_anew(row, begun, b"-lost\n")
+    }
+
+    /// A line has no connection.
+    fn fail(&mut self, row: usize) -> Result<(), AllocError> {
+        let waiting = self.rows[row].commands.len() - self.rows[row].replied;
+        self.board.fail(self.rows[row].id, b"-failed\n")?;
+        self.begin_anew(row, waiting, b"-failed\n")
+    }
+
+    /// The first commands that wait have this answer, and the others are for a new connection.
+    fn begin_anew(&mut self, row: usize, count: usize, text: &[u8]) -> Result<(), AllocError> {
+        let replied = self.rows[row].replied;
+        for place in replied..replied + count {
+            let command = self.rows[row].commands[place];
+            self.answer(command, text)?;
+        }
+        let mut left = Vec::new(self.alloc);
+        for command in self.rows[row].commands.iter().skip(replied + count) {
+            left.push(*command).map_err(|_| AllocError)?;
+        }
+        self.rows[row].commands = left;
+        self.rows[row].replied = 0;
+        self.rows[row].sent = 0;
+        Ok(())
+    }
+
+    /// Compares what waits for a client and on a line with the lists.
+    fn compare(&mut self, seat: usize, row: usize) -> Result<(), AllocError> {
+        let client = self.seats[seat];
+        let due = match self.board.to_client(self.ids[client]) {
+            Some(text) => self.expected[client].is_due(self.alloc, text)?,
+            None => false,
+        };
+        let line = self.rows[row].id;
+        let mut bytes = Vec::new(self.alloc);
+        for command in self.rows[row].commands.iter() {
+            bytes.extend_from_slice(&[
+                (command.client % 256) as u8,
+                (command.number % 256) as u8,
+                b'\n',
+            ])?;
+        }
+        let agree = self.board.to_server(line) == &bytes[self.rows[row].sent..]
+            && self.board.begun(line) == self.begun(row);
+        self.wrong += u64::from(!due) + u64::from(!agree);
+        Ok(())
+    }
+}

@@ -1,0 +1,49 @@
+//! Counts of commands with more names than there are rows.
+
+use super::check_equal;
+use resp_io::device::MemorySink;
+use resp_stats::Counts;
+use resp_tap::counted::{CountedTap, watch_counted};
+use resp_tap::watch::Side;
+use resp_tap::{Filter, Moment, Printing};
+use resp_value::limits::Limits;
+use std::alloc::Global;
+use std::time::Duration;
+
+/// The commands, each with its own name.
+const NAMES: u64 = 300;
+
+/// Counts commands named A100, A101, and so on, each answered by OK. Returns `None` if memory is out.
+fn counted(alloc: Global) -> Option<Counts> {
+    let now = Moment::new(Duration::ZERO, Duration::ZERO, false);
+    let printing = Printing {
+        client: 1,
+        shows_passwords: false,
+    };
+    let mut tap = CountedTap::new(alloc, &Limits::standard(), Filter::all(alloc));
+    let mut counts = Counts::new(alloc).ok()?;
+    let mut text = MemorySink::new(alloc, 4_096, 4_096).ok()?;
+    for number in 100..100 + NAMES {
+        let command = format!(in alloc; "*1\r\n$4\r\nA{number}\r\n").ok()?;
+        for (side, piece) in [
+            (Side::Client, command.as_str().as_bytes()),
+            (Side::Server, b"+OK\r\n".as_slice()),
+        ] {
+            let out = &mut text;
+            watch_counted(&mut tap, &mut counts, printing, side, piece, now, out).ok()?;
+        }
+    }
+    Some(counts)
+}
+
+#[test]
+fn the_first_row_has_all_names_behind_the_256th(rt: HostRuntime) {
+    let counts = counted(rt.alloc());
+    let rows = match &counts {
+        Some(counts) => counts.rows(),
+        None => &[],
+    };
+    check_equal(&rt, rows.len(), 257);
+    check_equal(&rt, rows[0].calls(), NAMES - 256);
+    check_equal(&rt, (rows[1].calls(), rows[256].calls()), (1, 1));
+}
