@@ -243,17 +243,17 @@ static bool is_double(const char *text) {
 
 /* Adds a double. */
 static APART bool add_double(struct reader *reader, char *start, size_t length) {
-#ifdef REDIS_REPLY_DOUBLE
-    redisReplyObjectFunctions *fn = reader->base.fn;
-    redisReadTask *task = task_of(reader, REDIS_REPLY_DOUBLE);
     char text[MOST_DOUBLE];
     if (length >= sizeof text || memchr(start, '\0', length))
         return fail(reader, REDIS_ERR_PROTOCOL, "Bad double value");
     memcpy(text, start, length);
     text[length] = '\0';
-    double number = strtod(text, NULL);
     if (!is_double(text))
         return fail(reader, REDIS_ERR_PROTOCOL, "Bad double value");
+#ifdef REDIS_REPLY_DOUBLE
+    redisReplyObjectFunctions *fn = reader->base.fn;
+    redisReadTask *task = task_of(reader, REDIS_REPLY_DOUBLE);
+    double number = strtod(text, NULL);
     return keep(reader, task, fn && fn->createDouble ? fn->createDouble(task, number, text, length) : kind(task));
 #else
     return add_string(reader, REDIS_REPLY_STRING, start, length);
