@@ -67,10 +67,14 @@ def section(order):
     return block(order, 0x0A0D0D0A, struct.pack(order + "IHHq", 0x1A2B3C4D, 1, 0, -1))
 
 
-def interface(order, link, resolution=None):
+def interface(order, link, resolution=None, offset=None):
     options = b""
     if resolution is not None:
-        options = struct.pack(order + "HHB3xHH", 9, 1, resolution, 0, 0)
+        options += struct.pack(order + "HHB3x", 9, 1, resolution)
+    if offset is not None:
+        options += struct.pack(order + "HHq", 14, 8, offset)
+    if options:
+        options += struct.pack(order + "HH", 0, 0)
     return block(order, 1, struct.pack(order + "HHI", link, 0, 0) + options)
 
 
@@ -194,6 +198,14 @@ def over_leap_day():
     return pcap(timed(talk(commands=[(PING, PONG)]), start=1709251199, step=33_000))
 
 
+def offsets():
+    """A connection on two interfaces, one after the other. Their times are an hour later and a second earlier than their
+    ticks say."""
+    frames = timed(talk(commands=[(PING, PONG), (GET, BULK)]))
+    blocks = [enhanced(">", index // 4, seconds * 1_000_000 + micros, frame) for index, (seconds, micros, frame) in enumerate(frames)]
+    return section(">") + interface(">", 1, 6, 3_600) + interface(">", 1, None, -1) + b"".join(blocks)
+
+
 def main():
     files = {
         "replay": plain(),
@@ -212,6 +224,7 @@ def main():
         "replay-fragments": fragments(),
         "replay-cut": plain()[:-5],
         "replay-of-nanoseconds": pcap(timed(talk(commands=[(PING, PONG)])), order=">", nano=True),
+        "replay-with-offsets": offsets(),
         "replay-with-a-long-block": plain()[:32] + struct.pack("<I", 1_048_561) + plain()[36:],
         "replay-of-another-link": pcap(timed(talk()), link=105),
     }

@@ -97,7 +97,7 @@ fn value(alloc: Global, text: &[u8]) -> Result<Value> {
     value_of(fed)
 }
 
-fn value_of(fed: Result<Fed, Fault>) -> Result<Value> {
+fn value_of(fed: Result<Fed<Value>, Fault>) -> Result<Value> {
     fed?.value.context("no value")
 }
 

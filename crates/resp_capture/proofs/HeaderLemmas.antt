@@ -3,10 +3,10 @@ use Rattle.std.proofs.Common.{◌≡◌, ℕ, zero, suc, ◌+◌, ◌-◌, ◌<�
 use Rattle.std.specs.Borrow.{Bor}
 use Rattle.std.proofs.lemmas.List.{take_rest}
 use Rattle.bytes.proofs.Ranges.{drop-take_less}
-use Rattle.resp_capture.specs.Frames.{HasResolution, IsOtherOption, IsResolution, ResolutionAfter, next_option}
+use Rattle.resp_capture.specs.Frames.{HasOption, IsOption, IsOtherOption, OptionAfter, next_option}
 use Rattle.resp_capture.specs.declared.number.ByteOrder.{ByteOrder}
 use Rattle.resp_capture.specs.Headers.{CarriesFour, CarriesPacket, CarriesSix, CarriesTcp, IsExtension, IsFour, IsFragment, IsFragmentSix, IsSix, IsTcp, IsTyped, Reaches, ReachesAfter, end_six, extension_size, is_extension, type_place}
-use Rattle.resp_capture.specs.Segments.{HasSegment}
+use Rattle.resp_capture.specs.Segments.{HasFragment, HasSegment}
 use Rattle.resp_capture.specs.declared.address.IpAddress.{IpAddress}
 use Rattle.resp_capture.specs.declared.link.LinkType.{LinkType}
 use Rattle.resp_capture.specs.declared.link.LinkType.TheVariants.{Loopback, Ethernet, Raw, Cooked, CookedTwo}
@@ -64,39 +64,51 @@ after_option : (order : ByteOrder) (options : List ℕ) (next : ℕ) → next �
     take (length options - next) (drop next options) ≡ drop (next_option order options) options
 after_option order options next e = take_rest options next ∙ ap (λ n. drop n options) e
 
-here_or_later : (order : ByteOrder) (options : List ℕ) (byte : ℕ) → IsResolution order options byte → IsOtherOption order options → ⊥
-here_or_later order options byte is other = omega (arith, is.some, other.code is.code)
+here_or_later : (order : ByteOrder) (code least : ℕ) (options bytes : List ℕ) → IsOption order code least options bytes →
+    IsOtherOption order code least options → ⊥
+here_or_later order code least options bytes is other = omega (arith, is.long, other.short is.code_is)
 
--- the option that says the ticks of a second comes later
-pub resolution_later : (found : Option ℕ) (order : ByteOrder) (options : List ℕ) (next : ℕ) → next ≡ next_option order options → IsOtherOption order options →
-    IfSome found (λ byte. HasResolution order (take (length options - next) (drop next options)) byte) → IfSome found (λ byte. HasResolution order options byte)
-resolution_later None order options next e other has = tt
-resolution_later (Some byte) order options next e other (count, after) =
-    (suc count, (other, subst (λ o. ResolutionAfter count order o byte) (after_option order options next e) after))
+-- the option comes later
+pub option_later : (found : Option (Bor (List ℕ))) (order : ByteOrder) (code least : ℕ) (options : List ℕ) (next : ℕ) → next ≡ next_option order options →
+    IsOtherOption order code least options →
+    IfSome found (λ bytes. HasOption order code least (take (length options - next) (drop next options)) bytes.now) →
+    IfSome found (λ bytes. HasOption order code least options bytes.now)
+option_later None order code least options next e other has = tt
+option_later (Some bytes) order code least options next e other (count, after) =
+    (suc count, (other, subst (λ o. OptionAfter count order code least o bytes.now) (after_option order options next e) after))
 
 -- or there is none
-pub no_resolution : (found : Option ℕ) (order : ByteOrder) (options : List ℕ) (next : ℕ) → next ≡ next_option order options →
-    ((byte : ℕ) → IsResolution order options byte → ⊥) →
-    IfNone found ((byte : ℕ) → HasResolution order (take (length options - next) (drop next options)) byte → ⊥) →
-    IfNone found ((byte : ℕ) → HasResolution order options byte → ⊥)
-no_resolution (Some byte) order options next e here later = tt
-no_resolution None order options next e here later = λ byte has. go has.0 byte has.1
+pub no_option : (found : Option (Bor (List ℕ))) (order : ByteOrder) (code least : ℕ) (options : List ℕ) (next : ℕ) → next ≡ next_option order options →
+    ((bytes : List ℕ) → IsOption order code least options bytes → ⊥) →
+    IfNone found ((bytes : List ℕ) → HasOption order code least (take (length options - next) (drop next options)) bytes → ⊥) →
+    IfNone found ((bytes : List ℕ) → HasOption order code least options bytes → ⊥)
+no_option (Some bytes) order code least options next e here later = tt
+no_option None order code least options next e here later = λ bytes has. go has.0 bytes has.1
   where
-    go : (count byte : ℕ) → ResolutionAfter count order options byte → ⊥
-    go zero byte is = here byte is
-    go (suc count) byte (other, after) =
-        later byte (count, subst (λ o. ResolutionAfter count order o byte) (sym (after_option order options next e)) after)
+    go : (count : ℕ) (bytes : List ℕ) → OptionAfter count order code least options bytes → ⊥
+    go zero bytes is = here bytes is
+    go (suc count) bytes (other, after) =
+        later bytes (count, subst (λ o. OptionAfter count order code least o bytes) (sym (after_option order options next e)) after)
 
--- the option with the ticks of a second is one of the options
-resolution_one : (n m : ℕ) (order : ByteOrder) (options : List ℕ) (a b : ℕ) → ResolutionAfter n order options a → ResolutionAfter m order options b → a ≡ b
-resolution_one zero zero order options a b is is' = is.byte_is ∙ sym is'.byte_is
-resolution_one zero (suc m) order options a b is (other, after) = absurd (here_or_later order options a is other)
-resolution_one (suc n) zero order options a b (other, after) is = absurd (here_or_later order options b is other)
-resolution_one (suc n) (suc m) order options a b (other, after) (other', after') =
-    resolution_one n m order (drop (next_option order options) options) a b after after'
+-- no option begins before the end
+pub none_here : (order : ByteOrder) (code least : ℕ) (options bytes : List ℕ) →
+    ((is : IsOption order code least options bytes) → ⊥) → (IsOtherOption order code least options → ⊥) →
+    HasOption order code least options bytes → ⊥
+none_here order code least options bytes here other (zero, is) = here is
+none_here order code least options bytes here other (suc count, (is, after)) = other is
 
-pub same_resolution : (order : ByteOrder) (options : List ℕ) (a b : ℕ) → HasResolution order options a → HasResolution order options b → a ≡ b
-same_resolution order options a b has has' = resolution_one has.0 has'.0 order options a b has.1 has'.1
+-- all options with this code begin with the same bytes
+option_one : (n m : ℕ) (order : ByteOrder) (code least : ℕ) (options a b : List ℕ) → OptionAfter n order code least options a →
+    OptionAfter m order code least options b → a ≡ b
+option_one zero zero order code least options a b is is' = is.bytes_are ∙ sym is'.bytes_are
+option_one zero (suc m) order code least options a b is (other, after) = absurd (here_or_later order code least options a is other)
+option_one (suc n) zero order code least options a b (other, after) is = absurd (here_or_later order code least options b is other)
+option_one (suc n) (suc m) order code least options a b (other, after) (other', after') =
+    option_one n m order code least (drop (next_option order options) options) a b after after'
+
+pub same_option : (order : ByteOrder) (code least : ℕ) (options a b : List ℕ) → HasOption order code least options a →
+    HasOption order code least options b → a ≡ b
+same_option order code least options a b has has' = option_one has.0 has'.0 order code least options a b has.1 has'.1
 
 -- ---- frames of Ethernet
 
@@ -196,6 +208,12 @@ pub no_segment : (link : LinkType) (frame packet : List ℕ) → CarriesPacket l
 no_segment link frame packet carries none segment has =
     let same : has.packet ≡ packet = frame_one link frame has.packet packet has.carries carries in
     none has.from has.to has.bytes (subst (λ p. CarriesTcp p has.from has.to has.bytes) same has.tcp)
+
+-- nor has a frame of another packet a fragment
+pub no_fragment : (link : LinkType) (frame packet : List ℕ) → CarriesPacket link frame packet → (IsFragment packet → ⊥) →
+    HasFragment link frame → ⊥
+no_fragment link frame packet carries none has =
+    none (subst IsFragment (frame_one link frame has.packet packet has.carries carries) has.fragment)
 
 -- bytes that are no segment
 pub no_segment_in : (link : LinkType) (frame packet : List ℕ) (from to : IpAddress) (bytes : List ℕ) → CarriesPacket link frame packet →

@@ -1,13 +1,18 @@
 -- Why a file is not read on after some bytes of a block.
-use Rattle.std.proofs.Common.{◌≡◌, ◌⊎◌, ◌∙◌, ℕ, ◌<◌, ◌≤◌, Bool, false, List, [], ◌++◌, None, Some, Result, Ok, Err, ap, append-nil, arith, cond, eqb, inl, inr, length, refl, subst, sym}
-use Rattle.std.specs.Prelude.{if◌then◌else◌, take}
-use Rattle.std.proofs.lemmas.Bool.{eq-eqb, le-ltb, lt-ltb, ne_eqb}
+use Rattle.std.proofs.Common.{◌≡◌, ◌⊎◌, ◌∙◌, ℕ, ◌<◌, ◌≤◌, Bool, true, false, List, [], ◌∷◌, ◌++◌, None, Some, Result, Ok, Err, ap, append-nil, arith, cond, eqb, inl, inr, length, refl, subst, sym}
+use Rattle.std.specs.Prelude.{if◌then◌else◌, take, OnOk}
+use Rattle.std.proofs.lemmas.Bool.{eq-eqb, eqb-true, le-ltb, lt-ltb, ne_eqb}
 use Rattle.resp_capture.specs.Blocks.{size_of}
-use Rattle.resp_capture.specs.Reading.{AreOfBlock, HasAllBytes, StopsAt, begun_bytes, fault_of, fault_of_block, fault_of_sized}
+use Rattle.resp_capture.specs.Reading.{AreOfBlock, HasAllBytes, InterfacesAfterBlock, StopsAt, begun_bytes, fault_of, fault_of_block, fault_of_sized, is_section}
 use Rattle.resp_capture.specs.declared.block.Format.{Format}
 use Rattle.resp_capture.specs.declared.error.Reason.{Reason}
 use Rattle.resp_capture.specs.declared.error.Reason.TheVariants.{OutOfMemory, WrongLength}
+use Rattle.resp_capture.specs.Frames.{IsDescribed}
+use Rattle.resp_capture.specs.Numbers.{number32}
 use Rattle.resp_capture.specs.declared.capture.Capture.{Capture}
+use Rattle.resp_capture.specs.declared.interface.Interface.{Interface}
+use Rattle.resp_capture.specs.declared.number.ByteOrder.{ByteOrder}
+use Rattle.resp_capture.specs.declared.number.ByteOrder.TheVariants.{Big}
 
 -- the size of the block is wrong
 pub wrong_size : (format : Format) (bytes : List ℕ) (reason : Reason) → Err reason ≡ size_of format bytes → fault_of format bytes ≡ Some reason
@@ -61,3 +66,37 @@ pub nothing_read : (old new : Capture) (piece : List ℕ) (reason : Reason) → 
     StopsAt old new piece reason
 nothing_read old new piece reason begun same =
     stops old new piece 0 reason begun (omega arith) (same ∙ sym (append-nil old.held.items)) (inl refl)
+
+-- ---- what a block says of interfaces
+
+-- the block begins a section
+pub section_interfaces : (order : ByteOrder) (bytes : List ℕ) (old new : List Interface) → number32 Big 0 bytes ≡ 168627466 → new ≡ [] →
+    InterfacesAfterBlock order bytes old new
+section_interfaces order bytes old new is none = record {
+  section = λ s. none;
+  described = λ other. absurd (no_section (sym (eq-eqb (number32 Big 0 bytes) 168627466 is) ∙ other));
+  others = λ other. absurd (no_section (sym (eq-eqb (number32 Big 0 bytes) 168627466 is) ∙ other));
+}
+  where
+    no_section : ◌≡◌ {A = Bool} true false → ⊥
+    no_section e = cc
+
+-- the block describes an interface
+pub described_interface : {T : Type 0} (result : Result T Reason) (order : ByteOrder) (bytes : List ℕ) (old new : List Interface) (interface : Interface) →
+    (number32 Big 0 bytes ≡ 168627466 → ⊥) → number32 order 0 bytes ≡ 1 → IsDescribed order bytes interface →
+    OnOk result (new ≡ old ++ interface ∷ []) → OnOk result (InterfacesAfterBlock order bytes old new)
+described_interface (Err reason) order bytes old new interface other kind is added = tt
+described_interface (Ok x) order bytes old new interface other kind is added = record {
+  section = λ s. absurd (other (eqb-true (number32 Big 0 bytes) 168627466 s));
+  described = λ s k. (interface, is, added);
+  others = λ s not. absurd (not kind);
+}
+
+-- the block says nothing of interfaces
+pub same_interfaces : (order : ByteOrder) (bytes : List ℕ) (old new : List Interface) → (number32 Big 0 bytes ≡ 168627466 → ⊥) →
+    (number32 order 0 bytes ≡ 1 → ⊥) → new ≡ old → InterfacesAfterBlock order bytes old new
+same_interfaces order bytes old new other kind same = record {
+  section = λ s. absurd (other (eqb-true (number32 Big 0 bytes) 168627466 s));
+  described = λ s k. absurd (kind k);
+  others = λ s not. same;
+}

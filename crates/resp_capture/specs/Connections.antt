@@ -1,5 +1,5 @@
 -- Connections of a capture, with two sides.
-use Rattle.std.specs.Prelude.{◌≡◌, ℕ, ◌+◌, ◌%◌, ◌^◌, ◌<◌, ◌≤◌, false, [], None, Some, cond, MatchOption}
+use Rattle.std.specs.Prelude.{◌≡◌, ℕ, ◌+◌, ◌%◌, ◌^◌, ◌<◌, ◌≤◌, ◌&&◌, Option, false, true, [], None, Some, cond, if◌then◌else◌, length, ltb, MatchOption}
 use Rattle.resp_capture.specs.Streams.{IsPlaceOf, StreamState, TakesSegment, given_of}
 use Rattle.resp_capture.specs.declared.connection.CapturedConnection.{CapturedConnection}
 use Rattle.resp_capture.specs.declared.connection.End.{End}
@@ -38,11 +38,37 @@ abbrev pub IsFrom : CapturedConnection → End → Segment → Type 0
 IsFrom connection ends.Client segment = (segment.from ≡ connection.client) × (segment.to ≡ connection.server)
 IsFrom connection ends.Server segment = (segment.from ≡ connection.server) × (segment.to ≡ connection.client)
 
+-- The place after the last byte of a side, after a segment at this place: the end of the first segment that is the last one of
+-- the side. Its place is below 2^64.
+abbrev pub last_after : Option ℕ → Segment → ℕ → Option ℕ
+last_after (Some last) segment place = Some last
+last_after None segment place = if segment.ends && ltb (place + length segment.data.now) (2 ^ 64)
+    then Some (place + length segment.data.now) else None
+
 -- a side has taken a segment: its stream has taken the bytes at the place of their number
 pub record TakesInSide (old new : SentSide) (segment : Segment) (taken : Placed) : Type 0 where
   pub place : ℕ
   pub is_place : IsPlaceOf (begun_stream old (first_number segment)) (first_number segment) place
   pub takes : TakesSegment (begun_stream old (first_number segment)) new.stream place segment.data.now (given_of taken)
+  pub begun : new.is_begun ≡ true
+  pub last_is : new.last ≡ last_after old.last segment place
+
+-- a side has not taken a segment: its bytes are those of before, and it knows its end if the segment is the last one
+pub record RefusesInSide (old new : SentSide) (segment : Segment) : Type 0 where
+  pub same_stream : new.stream ≡ begun_stream old (first_number segment)
+  pub begun : new.is_begun ≡ true
+  pub last_is : (place : ℕ) → IsPlaceOf (begun_stream old (first_number segment)) (first_number segment) place →
+      new.last ≡ last_after old.last segment place
+  pub same_last : ((place : ℕ) → IsPlaceOf (begun_stream old (first_number segment)) (first_number segment) place → ⊥) →
+      new.last ≡ old.last
+
+-- a segment of the client begins another connection with the same ends: it is the first one of a side, and the side has begun
+-- with another number
+pub record BeginsAgain (side : SentSide) (segment : Segment) : Type 0 where
+  pub first : segment.begins ≡ true
+  pub asks : segment.acknowledges ≡ false
+  pub begun : side.is_begun ≡ true
+  pub another : IsPlaceOf side.stream (first_number segment) 0 → ⊥
 
 -- all bytes before the end of the side were given
 abbrev pub HasEnded : SentSide → Type 0

@@ -111,7 +111,7 @@ pub record CarriesSix (packet : List ℕ) (protocol : ℕ) (bytes : List ℕ) : 
 
 -- the addresses of a packet of version 6
 abbrev pub address_six : ℕ → List ℕ → IpAddress
-address_six at packet = Six (number64 at packet) (number64 (at + 8) packet)
+address_six at packet = Six (number64 Big at packet) (number64 Big (at + 8) packet)
 
 -- a packet of version 6 is a fragment
 abbrev pub IsFragmentSix : List ℕ → Type 0

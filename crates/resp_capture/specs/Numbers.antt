@@ -13,6 +13,7 @@ abbrev pub number32 : ByteOrder → ℕ → List ℕ → ℕ
 number32 Big at bytes = number16 Big at bytes * 65536 + number16 Big (at + 2) bytes
 number32 Little at bytes = number16 Little (at + 2) bytes * 65536 + number16 Little at bytes
 
--- the number in the eight bytes from this place on, the byte of the greatest value first
-abbrev pub number64 : ℕ → List ℕ → ℕ
-number64 at bytes = number32 Big at bytes * 4294967296 + number32 Big (at + 4) bytes
+-- the number in the eight bytes from this place on
+abbrev pub number64 : ByteOrder → ℕ → List ℕ → ℕ
+number64 Big at bytes = number32 Big at bytes * 4294967296 + number32 Big (at + 4) bytes
+number64 Little at bytes = number32 Little (at + 4) bytes * 4294967296 + number32 Little at bytes

@@ -1,14 +1,15 @@
 -- How a capture is read: one block after another.
-use Rattle.std.specs.Prelude.{◌≡◌, ◌⊎◌, ℕ, ◌+◌, ◌%◌, ◌<◌, ◌≤◌, ◌==◌, ◌&&◌, true, false, List, [], ◌++◌, Option, None, Some, Result, Ok, Err, cond, if◌then◌else◌, length, ltb, min, take}
-use Rattle.resp_capture.specs.Blocks.{magic_of, size_of}
+use Rattle.std.specs.Prelude.{◌≡◌, ◌⊎◌, ℕ, ◌+◌, ◌%◌, ◌<◌, ◌≤◌, ◌==◌, ◌&&◌, Bool, pos, true, false, List, [], ◌∷◌, ◌++◌, Option, None, Some, Result, Ok, Err, cond, if◌then◌else◌, length, ltb, min, slice_get, take, unwrap_or}
+use Rattle.resp_capture.specs.Blocks.{magic_of, section_order, size_of}
 use Rattle.resp_capture.specs.Headers.{link_of}
 use Rattle.resp_capture.specs.Numbers.{number32}
-use Rattle.resp_capture.specs.Frames.{HasRecord, IsFrame}
+use Rattle.resp_capture.specs.Frames.{HasRecord, IsDescribed, IsFrame, fault_of_frame, fault_of_record}
 use Rattle.resp_capture.specs.declared.block.Format.{Format}
 use Rattle.resp_capture.specs.declared.block.Format.TheVariants as format
 use Rattle.resp_capture.specs.declared.block.Magic.{Magic}
 use Rattle.resp_capture.specs.declared.error.Reason.{Reason}
-use Rattle.resp_capture.specs.declared.error.Reason.TheVariants.{NotACapture, OutOfMemory, UnknownLink, WrongLength}
+use Rattle.resp_capture.specs.declared.error.Reason.TheVariants.{Cut, NotACapture, OutOfMemory, UnknownLink, WrongLength}
+use Rattle.resp_capture.specs.declared.interface.Interface.{Interface}
 use Rattle.resp_capture.specs.declared.link.LinkType.{LinkType}
 use Rattle.resp_capture.specs.declared.number.ByteOrder.{ByteOrder}
 use Rattle.resp_capture.specs.declared.number.ByteOrder.TheVariants.{Big}
@@ -33,6 +34,53 @@ pub record IsBegunBlock (format : Format) (bytes : List ℕ) : Type 0 where
   pub said : size_of format bytes ≡ Ok size
   pub more : length bytes < size
 
+-- ---- what a whole block says of the blocks after it
+
+-- the block is the first one of a section of the format pcapng
+abbrev pub is_section : List ℕ → Bool
+is_section bytes = number32 Big 0 bytes == 0x0a0d_0d0a
+
+-- the format of a file after a block of the format pcapng with numbers in this order
+abbrev pub format_after_block : Format → ByteOrder → List ℕ → Format
+format_after_block before order bytes =
+    if is_section bytes then format.Pcapng (unwrap_or (section_order (number32 Big 8 bytes)) order) else before
+
+abbrev pub format_after_first : Option Magic → List ℕ → Format
+format_after_first (Some magic) bytes = format.Pcap magic.order
+format_after_first None bytes = format_after_block format.Unknown Big bytes
+
+-- the format of a file after a block, which its first block says, and each block that begins a section
+abbrev pub format_after : Format → List ℕ → Format
+format_after format.Unknown bytes = format_after_first (magic_of (number32 Big 0 bytes)) bytes
+format_after (format.Pcap order) bytes = format.Pcap order
+format_after (format.Pcapng order) bytes = format_after_block (format.Pcapng order) order bytes
+
+-- the one interface of a file of the format pcap, by its first block
+pub record IsOfFile (magic : Magic) (bytes : List ℕ) (interface : Interface) : Type 0 where
+  pub link_is : interface.link ≡ link_of (number32 magic.order 20 bytes % 65536)
+  pub ticks_are : interface.per_second ≡ magic.per_second
+  pub no_offset : interface.offset ≡ pos 0
+
+-- one interface was added, of which this is true
+abbrev pub IsAdded : (Interface → Type 0) → List Interface → List Interface → Type 0
+IsAdded IsOne old new = (interface : Interface) × IsOne interface × (new ≡ old ++ interface ∷ [])
+
+-- the interfaces after a block of the format pcapng: those of another section are forgotten
+pub record InterfacesAfterBlock (order : ByteOrder) (bytes : List ℕ) (old new : List Interface) : Type 0 where
+  pub section : is_section bytes ≡ true → new ≡ []
+  pub described : is_section bytes ≡ false → number32 order 0 bytes ≡ 1 → IsAdded (IsDescribed order bytes) old new
+  pub others : is_section bytes ≡ false → (number32 order 0 bytes ≡ 1 → ⊥) → new ≡ old
+
+abbrev pub InterfacesAfterFirst : Option Magic → List ℕ → List Interface → List Interface → Type 0
+InterfacesAfterFirst (Some magic) bytes old new = IsAdded (IsOfFile magic bytes) old new
+InterfacesAfterFirst None bytes old new = InterfacesAfterBlock Big bytes old new
+
+-- the interfaces of a file after a whole block
+abbrev pub InterfacesAfter : Format → List ℕ → List Interface → List Interface → Type 0
+InterfacesAfter format.Unknown bytes old new = InterfacesAfterFirst (magic_of (number32 Big 0 bytes)) bytes old new
+InterfacesAfter (format.Pcap order) bytes old new = new ≡ old
+InterfacesAfter (format.Pcapng order) bytes old new = InterfacesAfterBlock order bytes old new
+
 -- The first bytes of a piece were read. They follow the bytes of the block that were read before. No byte after the block was
 -- read, and all bytes of a block that is not whole are held.
 pub record ReadsBlock (old new : Capture) (piece : List ℕ) (count : ℕ) : Type 0 where
@@ -42,6 +90,9 @@ pub record ReadsBlock (old new : Capture) (piece : List ℕ) (count : ℕ) : Typ
   pub whole : new.is_whole ≡ true → IsWholeBlock old.format new.held.items
   pub begun : new.is_whole ≡ false → IsBegunBlock old.format new.held.items
   pub same_format : new.is_whole ≡ false → new.format ≡ old.format
+  pub same_interfaces : new.is_whole ≡ false → new.interfaces.items ≡ old.interfaces.items
+  pub format_is : new.is_whole ≡ true → new.format ≡ format_after old.format new.held.items
+  pub interfaces_are : new.is_whole ≡ true → InterfacesAfter old.format new.held.items old.interfaces.items new.interfaces.items
 
 -- ---- blocks that are not read on
 
@@ -123,6 +174,15 @@ HasNoFault old new = (failure_of old ≡ None) × (fault_of old.format new.held.
 abbrev pub IsAtEnd : Capture → Type 0
 IsAtEnd capture = capture.is_whole ≡ true
 
+abbrev pub end_fault_of : Format → ℕ → Reason
+end_fault_of format.Unknown count = if ltb count 4 then NotACapture else Cut
+end_fault_of (format.Pcap order) count = Cut
+end_fault_of (format.Pcapng order) count = Cut
+
+-- why a file that ends inside a block is refused: it is cut, or it has too few bytes to be a capture
+abbrev pub end_fault : Capture → Reason
+end_fault capture = end_fault_of capture.format (length capture.held.items)
+
 -- the packet of this block, by the format of the file; the first block of the format pcap has no packet
 abbrev pub HasFrameIn : Format → Capture → CapturedPacket → Type 0
 HasFrameIn format.Unknown capture frame = ⊥
@@ -132,3 +192,13 @@ HasFrameIn (format.Pcapng order) capture frame = IsFrame order capture.interface
 -- the last block that was read is whole, and has this packet
 abbrev pub HasFrame : Capture → CapturedPacket → Type 0
 HasFrame capture frame = (capture.is_whole ≡ true) × HasFrameIn capture.format capture frame
+
+abbrev pub packet_fault_in : Format → Capture → Option Reason
+packet_fault_in format.Unknown capture = None
+packet_fault_in (format.Pcap order) capture = if capture.at == 0 then None else
+    fault_of_record (slice_get capture.interfaces.items 0) capture.held.items
+packet_fault_in (format.Pcapng order) capture = fault_of_frame order capture.interfaces.items capture.held.items
+
+-- why the packet of the last block that was read cannot be read; nothing if it can, or there is no packet
+abbrev pub packet_fault : Capture → Option Reason
+packet_fault capture = if capture.is_whole then packet_fault_in capture.format capture else None

@@ -1,10 +1,11 @@
 //! The packets of a capture that arrives in pieces.
 
-ghost use Rattle.std.specs.Prelude.{◌≡◌, ◌+◌, ◌<◌, ◌≤◌, ◌++◌, [], ◌∷◌, true, false, length, IfErr, IfNone, IfOk, OnOk};
+ghost use Rattle.std.specs.Prelude.{◌≡◌, ◌+◌, ◌<◌, ◌≤◌, ◌++◌, [], ◌∷◌, true, false, length, slice_get, IfErr, IfNone, IfOk, OnOk};
 ghost use Rattle.std.specs.Prelude.{◌⊎◌, None, Some, IfSome, OnErr};
-ghost use Rattle.resp_capture.specs.Frames.{HasNo, HasRecord, IsEnhanced, IsFrame, IsSimple, IsTime, simple_count, ticks_in};
+ghost use Rattle.resp_capture.specs.Frames.{HasNo, HasRecord, IsEnhanced, IsFrame, IsSimple, IsTimeOn, fault_of_frame, fault_of_record, simple_count, ticks_in};
 ghost use Rattle.resp_capture.specs.Numbers.{number32};
-ghost use Rattle.resp_capture.specs.Reading.{HasFrame, HasNoFault, IsAtEnd, IsNotReadOn, ReadsBlock, StopsAt, begun_bytes, failure_of, fault_of, fault_of_block, fault_of_pcapng, next_at};
+ghost use Rattle.resp_capture.specs.Blocks.{magic_of};
+ghost use Rattle.resp_capture.specs.Reading.{HasFrame, HasNoFault, InterfacesAfter, InterfacesAfterBlock, IsAtEnd, IsNotReadOn, ReadsBlock, StopsAt, begun_bytes, end_fault, failure_of, fault_of, fault_of_block, fault_of_pcapng, format_after, format_after_block, next_at, packet_fault};
 ghost use Rattle.resp_capture.specs.declared.time.Time.{Time};
 
 use crate::block::{Format, SECTION, block_size, magic_of, section_order};
@@ -177,6 +178,10 @@ impl Capture {
         ensures held { self.new.held.items ≡ self.old.held.items }
         ensures at { self.new.at ≡ self.old.at }
         ensures same_failure { self.new.failure ≡ self.old.failure }
+        ensures format { OnOk result
+            (self.new.format ≡ format_after self.old.format self.old.held.items) }
+        ensures interfaces { OnOk result (InterfacesAfter self.old.format self.old.held.items
+            self.old.interfaces.items self.new.interfaces.items) }
         ensures no_fault { OnOk result
             (fault_of_block self.old.format self.old.held.items ≡ None) }
         ensures fault { IfErr result (λ reason. (reason ≡ Reason.OutOfMemory) ⊎
@@ -200,6 +205,10 @@ impl Capture {
         ensures at { self.new.at ≡ self.old.at }
         ensures same_failure { self.new.failure ≡ self.old.failure }
         ensures not_whole { self.new.is_whole ≡ self.old.is_whole }
+        ensures format { self.old.format ≡ Format.Unknown → OnOk result
+            (self.new.format ≡ format_after Format.Unknown self.old.held.items) }
+        ensures interfaces { OnOk result (InterfacesAfter Format.Unknown self.old.held.items
+            self.old.interfaces.items self.new.interfaces.items) }
         ensures no_fault { OnOk result
             (fault_of_block Format.Unknown self.old.held.items ≡ None) }
         ensures fault { IfErr result (λ reason. (reason ≡ Reason.OutOfMemory) ⊎
@@ -229,6 +238,10 @@ impl Capture {
         ensures at { self.new.at ≡ self.old.at }
         ensures same_failure { self.new.failure ≡ self.old.failure }
         ensures not_whole { self.new.is_whole ≡ self.old.is_whole }
+        ensures format { OnOk result
+            (self.new.format ≡ format_after_block self.old.format order self.old.held.items) }
+        ensures interfaces { OnOk result (InterfacesAfterBlock order self.old.held.items
+            self.old.interfaces.items self.new.interfaces.items) }
         ensures no_fault { OnOk result (fault_of_pcapng order self.old.held.items ≡ None) }
         ensures fault { IfErr result (λ reason. (reason ≡ Reason.OutOfMemory) ⊎
             (fault_of_pcapng order self.old.held.items ≡ Some reason)) }
@@ -285,6 +298,8 @@ impl Capture {
         ensures frame { IfOk result (λ found. IfSome found (HasFrame self.now)) }
         ensures none { IfOk result (λ found. IfNone found (HasNo (HasFrame self.now))) }
         ensures fault { OnErr result (HasNo (HasFrame self.now)) }
+        ensures no_fault { OnOk result (packet_fault self.now ≡ None) }
+        ensures reason { IfErr result (λ error. packet_fault self.now ≡ Some error.reason) }
         ensures error_at { IfErr result (λ error. error.at ≡ self.now.at) }
     {
         if !self.is_whole {
@@ -311,6 +326,7 @@ impl Capture {
     pub fn end(&self) -> Result<(), CaptureError>
         ensures whole { OnOk result (IsAtEnd self.now) }
         ensures cut { IfErr result (λ error. (IsAtEnd self.now → ⊥) × (error.at ≡ self.now.at)) }
+        ensures reason { IfErr result (λ error. error.reason ≡ end_fault self.now) }
     {
         if self.is_whole {
             Ok(())
@@ -332,6 +348,10 @@ fn record_of<'a>(
     ensures none { IfOk result (λ found. IfNone found
         (HasNo (HasRecord order interfaces.now block.now))) }
     ensures fault { OnErr result (HasNo (HasRecord order interfaces.now block.now)) }
+    ensures no_fault { OnOk result
+        (fault_of_record (slice_get interfaces.now 0) block.now ≡ None) }
+    ensures reason { IfErr result (λ reason.
+        fault_of_record (slice_get interfaces.now 0) block.now ≡ Some reason) }
 {
     let Some(interface) = interfaces.first() else {
         return Err(Reason::UnknownInterface);
@@ -365,6 +385,9 @@ fn frame_of<'a>(
     ensures none { IfOk result (λ found. IfNone found
         (HasNo (IsFrame order interfaces.now block.now))) }
     ensures fault { OnErr result (HasNo (IsFrame order interfaces.now block.now)) }
+    ensures no_fault { OnOk result (fault_of_frame order interfaces.now block.now ≡ None) }
+    ensures reason { IfErr result (λ reason.
+        fault_of_frame order interfaces.now block.now ≡ Some reason) }
 {
     if block.len() < 12 {
         return Err(Reason::WrongLength);
@@ -382,11 +405,15 @@ fn enhanced_of<'a>(
     interfaces: &[Interface],
     block: &'a [u8],
 ) -> Result<Option<CapturedPacket<'a>>, Reason>
-    requires { number32 order 0 block.now ≡ 6 }
+    requires kind { number32 order 0 block.now ≡ 6 }
+    requires whole { 12 ≤ length block.now }
     ensures frame { IfOk result (λ found. IfSome found (IsEnhanced order interfaces.now block.now)) }
     ensures none { IfOk result (λ found. IfNone found
         (HasNo (IsEnhanced order interfaces.now block.now))) }
     ensures fault { OnErr result (HasNo (IsEnhanced order interfaces.now block.now)) }
+    ensures no_fault { OnOk result (fault_of_frame order interfaces.now block.now ≡ None) }
+    ensures reason { IfErr result (λ reason.
+        fault_of_frame order interfaces.now block.now ≡ Some reason) }
 {
     if block.len() < 32 {
         return Err(Reason::WrongLength);
@@ -404,6 +431,18 @@ fn enhanced_of<'a>(
     }
 }
 
+/// Returns the time of this many ticks of an interface, in UTC: between 0 and 2^64 - 1 seconds.
+fn time_on(interface: Interface, ticks: u64) -> Time
+    requires { 0 < interface.per_second }
+    ensures { IsTimeOn interface ticks result }
+{
+    let time = time_of(0, ticks, interface.per_second);
+    Time {
+        seconds: time.seconds.saturating_add_signed(interface.offset),
+        nanos: time.nanos,
+    }
+}
+
 /// Returns the packet with these bytes of an enhanced packet block, if its link is read.
 fn with_time<'a>(
     order: ByteOrder,
@@ -415,14 +454,14 @@ fn with_time<'a>(
     requires ticks { 0 < interface.per_second }
     ensures none { IfNone result (interface.link ≡ None) }
     ensures frame { IfSome result (λ frame. (time : Time) × (frame.time ≡ Some time) ×
-        IsTime 0 (ticks_in order block.now) interface.per_second time ×
+        IsTimeOn interface (ticks_in order block.now) time ×
         (interface.link ≡ Some frame.link) × (frame.bytes.now ≡ bytes.now)) }
 {
     let link = interface.link?;
     let high = number32(order, block, 12) as u64;
     let ticks = high * 4_294_967_296 + number32(order, block, 16) as u64;
     Some(CapturedPacket {
-        time: Some(time_of(0, ticks, interface.per_second)),
+        time: Some(time_on(interface, ticks)),
         link,
         bytes,
     })
@@ -434,11 +473,15 @@ fn simple_of<'a>(
     interfaces: &[Interface],
     block: &'a [u8],
 ) -> Result<Option<CapturedPacket<'a>>, Reason>
-    requires { number32 order 0 block.now ≡ 3 }
+    requires kind { number32 order 0 block.now ≡ 3 }
+    requires whole { 12 ≤ length block.now }
     ensures frame { IfOk result (λ found. IfSome found (IsSimple order interfaces.now block.now)) }
     ensures none { IfOk result (λ found. IfNone found
         (HasNo (IsSimple order interfaces.now block.now))) }
     ensures fault { OnErr result (HasNo (IsSimple order interfaces.now block.now)) }
+    ensures no_fault { OnOk result (fault_of_frame order interfaces.now block.now ≡ None) }
+    ensures reason { IfErr result (λ reason.
+        fault_of_frame order interfaces.now block.now ≡ Some reason) }
 {
     if block.len() < 16 {
         return Err(Reason::WrongLength);

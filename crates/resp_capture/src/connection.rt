@@ -1,7 +1,7 @@
 //! A connection of a capture, with both sides.
 
 ghost use Rattle.std.specs.Prelude.{◌≡◌, ◌≢◌, ◌↔◌, ℕ, ◌≤◌, [], None, Some, false, not, true, IfOk, IfSome, IfNone, IsTrue, OnErr, OnSome};
-ghost use Rattle.resp_capture.specs.Connections.{HasEnded, HasSameEnds, IsFrom, IsNewSide, LacksToEnd, TakesInSide, begun_stream, first_number, other, side_of};
+ghost use Rattle.resp_capture.specs.Connections.{BeginsAgain, HasEnded, HasSameEnds, IsFrom, IsNewSide, LacksToEnd, RefusesInSide, TakesInSide, begun_stream, first_number, other, side_of};
 ghost use Rattle.resp_capture.specs.Streams.{HasReadyPart, Skips, TakesHeld, WaitsForOthers};
 
 use crate::address::Endpoint;
@@ -47,7 +47,8 @@ pub fn is_to_server(segment: &Segment<'_>, port: Option<u16>) -> bool
         segment.now.to.port ≡ named → result ≡ true }
     ensures from_named { (named : ℕ) → segment.now.begins ≡ false → port ≡ Some named →
         segment.now.from.port ≡ named → segment.now.to.port ≢ named → result ≡ false }
-    ensures lower { segment.now.begins ≡ false → port ≡ None →
+    ensures lower { segment.now.begins ≡ false → port ≢ Some segment.now.to.port →
+        port ≢ Some segment.now.from.port →
         IsTrue result ↔ (segment.now.to.port ≤ segment.now.from.port) }
 {
     if segment.begins {
@@ -96,9 +97,7 @@ impl SentSide {
     /// Takes a segment.
     fn take<'a>(&mut self, alloc: Global, segment: &Segment<'a>) -> Result<Placed<'a>, StreamError>
         ensures takes { IfOk result (λ taken. TakesInSide self.old self.new segment.now taken) }
-        ensures refused { OnErr result (self.new.stream ≡
-            begun_stream self.old (first_number segment.now)) }
-        ensures begun { self.new.is_begun ≡ true }
+        ensures refused { OnErr result (RefusesInSide self.old self.new segment.now) }
     {
         let first = first_of(segment);
         self.begin(alloc, first);
@@ -159,7 +158,9 @@ impl CapturedConnection {
     }
 
     /// Returns whether a segment of the client begins another connection with the same addresses.
-    pub fn is_begun_again(&self, segment: &Segment<'_>) -> bool {
+    pub fn is_begun_again(&self, segment: &Segment<'_>) -> bool
+        ensures { IsTrue result ↔ BeginsAgain self.now.to_server segment.now }
+    {
         let side = &self.to_server;
         if !segment.begins || segment.acknowledges || !side.is_begun {
             return false;
@@ -177,8 +178,8 @@ impl CapturedConnection {
     pub fn take<'a>(&mut self, end: End, segment: &Segment<'a>) -> Result<Placed<'a>, StreamError>
         ensures takes { IfOk result (λ taken. TakesInSide (side_of self.old end)
             (side_of self.new end) segment.now taken) }
-        ensures refused { OnErr result ((side_of self.new end).stream ≡
-            begun_stream (side_of self.old end) (first_number segment.now)) }
+        ensures refused { OnErr result (RefusesInSide (side_of self.old end)
+            (side_of self.new end) segment.now) }
         ensures other_side { side_of self.new (other end) ≡ side_of self.old (other end) }
         ensures same_ends { HasSameEnds self.old self.new }
     {

@@ -1,18 +1,19 @@
 //! The interfaces of a capture.
 
-ghost use Rattle.std.specs.Prelude.{◌≡◌, ℕ, ◌+◌, ◌-◌, ◌<◌, ◌≤◌, Some, length, slice_range, IfNone, IfSome};
-ghost use Rattle.resp_capture.specs.Frames.{HasResolution, ticks_of};
-ghost use Rattle.resp_capture.specs.Headers.{link_of};
-ghost use Rattle.resp_capture.specs.Numbers.{number16, number32};
+ghost use Rattle.std.specs.Prelude.{◌≡◌, ℕ, ℤ, ◌≤◌, List, Some, length, pos, IfNone, IfSome};
+ghost use Rattle.resp_capture.specs.Frames.{HasOffset, HasOption, HasResolution, IsDescribed, ticks_of};
 
 use crate::link::LinkType;
-use crate::number::{ByteOrder, number16, number32};
+use crate::number::{ByteOrder, number16, number32, number64};
 
 /// The ticks of a second, if the capture does not say them.
 const MICROS: u64 = 1_000_000;
 
-/// The number of the option with the ticks of a second.
+/// The code of the option with the ticks of a second.
 const RESOLUTION: u16 = 9;
+
+/// The code of the option with the seconds that are added to each time.
+const OFFSET: u16 = 14;
 
 /// An interface of a capture.
 #[derive(Clone, Copy, Debug, PartialEq, Eq)]
@@ -21,6 +22,8 @@ pub(crate) struct Interface {
     pub(crate) link: Option<LinkType>,
     /// The ticks of a second of its times, at least 1; 0 if they have too many digits.
     pub(crate) per_second: u64,
+    /// The seconds that are added to each of its times.
+    pub(crate) offset: i64,
     /// The maximum number of bytes of a packet that were captured.
     pub(crate) most: u32,
 }
@@ -37,29 +40,32 @@ fn ticks_of(byte: u8) -> u64
     base.checked_pow(power as u32).unwrap_or(0)
 }
 
-/// Returns the byte of the option with the ticks of a second.
-fn resolution_in(order: ByteOrder, options: &[u8]) -> Option<u8>
-    ensures some { IfSome result (λ byte. HasResolution order options.now byte) }
-    ensures none { IfNone result ((byte : ℕ) → HasResolution order options.now byte → ⊥) }
+/// Returns the first bytes of the option with this code, `least` bytes, or `None` if no option has this
+/// code and so many bytes.
+fn option_in(order: ByteOrder, options: &[u8], code: u16, least: usize) -> Option<&[u8]>
+    ensures some { IfSome result (λ bytes. HasOption order code least options.now bytes.now) }
+    ensures none { IfNone result ((bytes : List ℕ) →
+        HasOption order code least options.now bytes → ⊥) }
+    ensures long { IfSome result (λ bytes. length bytes.now ≡ least) }
 {
-    if options.len() < 5 {
+    if options.len() < 4 {
         return None;
     }
-    let (code, length) = (
+    let (found, length) = (
         number16(order, options, 0),
         number16(order, options, 2) as usize,
     );
-    if code == 0 {
+    if found == 0 {
         return None;
     }
-    if code == RESOLUTION && length > 0 {
-        return Some(options[4]);
+    if found == code && least <= length && least <= options.len() - 4 {
+        return Some(&options[4..4 + least]);
     }
     let next = 4 + (length + 3) / 4 * 4;
     if next > options.len() {
         return None;
     }
-    resolution_in(order, &options[next..])
+    option_in(order, &options[next..], code, least)
 }
 
 /// Returns the ticks of a second that options say, or 1,000,000 if they do not say them.
@@ -67,9 +73,20 @@ fn ticks_in(order: ByteOrder, options: &[u8]) -> u64
     ensures ticks { (byte : ℕ) → HasResolution order options.now byte → result ≡ ticks_of byte }
     ensures micros { ((byte : ℕ) → HasResolution order options.now byte → ⊥) → result ≡ 1000000 }
 {
-    match resolution_in(order, options) {
-        Some(byte) => ticks_of(byte),
+    match option_in(order, options, RESOLUTION, 1) {
+        Some(bytes) => ticks_of(bytes[0]),
         None => MICROS,
+    }
+}
+
+/// Returns the seconds that options say are added to each time, or 0 if they do not say them.
+fn offset_in(order: ByteOrder, options: &[u8]) -> i64
+    ensures offset { (offset : ℤ) → HasOffset order options.now offset → result ≡ offset }
+    ensures none { ((offset : ℤ) → HasOffset order options.now offset → ⊥) → result ≡ pos 0 }
+{
+    match option_in(order, options, OFFSET, 8) {
+        Some(bytes) => number64(order, bytes, 0).cast_signed(),
+        None => 0,
     }
 }
 
@@ -78,10 +95,13 @@ impl Interface {
     pub(crate) fn of_pcap(link: LinkType, per_second: u32) -> Interface
         ensures link { result.link ≡ Some link }
         ensures ticks { result.per_second ≡ per_second }
+        ensures offset { result.offset ≡ pos 0 }
+        ensures most { result.most ≡ 4294967295 }
     {
         Interface {
             link: Some(link),
             per_second: per_second as u64,
+            offset: 0,
             most: u32::MAX,
         }
     }
@@ -89,17 +109,13 @@ impl Interface {
     /// Returns the interface that a pcapng block describes, which has at least 20 bytes.
     pub(crate) fn of_block(order: ByteOrder, block: &[u8]) -> Interface
         requires { 20 ≤ length block.now }
-        ensures link { result.link ≡ link_of (number16 order 8 block.now) }
-        ensures most { result.most ≡ number32 order 12 block.now }
-        ensures ticks { (byte : ℕ) → HasResolution order (slice_range block.now 16
-            (length block.now - 4)) byte → result.per_second ≡ ticks_of byte }
-        ensures micros { ((byte : ℕ) → HasResolution order (slice_range block.now 16
-            (length block.now - 4)) byte → ⊥) → result.per_second ≡ 1000000 }
+        ensures { IsDescribed order block.now result }
     {
         let options = &block[16..block.len() - 4];
         Interface {
             link: LinkType::of_number(number16(order, block, 8) as u32),
             per_second: ticks_in(order, options),
+            offset: offset_in(order, options),
             most: number32(order, block, 12),
         }
     }

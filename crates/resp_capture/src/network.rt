@@ -150,8 +150,8 @@ pub(crate) fn address_six(packet: &[u8], at: usize) -> IpAddress
     ensures { result ≡ address_six at packet.now }
 {
     IpAddress::Six {
-        high: number64(packet, at),
-        low: number64(packet, at + 8),
+        high: number64(ByteOrder::Big, packet, at),
+        low: number64(ByteOrder::Big, packet, at + 8),
     }
 }
 

@@ -1,4 +1,4 @@
-//! Numbers of two and four bytes, in either byte order.
+//! Numbers of two, four and eight bytes, in either byte order.
 
 ghost use Rattle.std.specs.Prelude.{◌≡◌, ◌+◌, ◌≤◌, length};
 ghost use Rattle.resp_capture.specs.Numbers.{number16, number32, number64};
@@ -37,12 +37,15 @@ pub(crate) fn number32(order: ByteOrder, bytes: &[u8], at: usize) -> u32
     }
 }
 
-/// Returns the number in the eight bytes from `at` on, the byte of the greatest value first.
-pub(crate) fn number64(bytes: &[u8], at: usize) -> u64
+/// Returns the number in the eight bytes from `at` on.
+pub(crate) fn number64(order: ByteOrder, bytes: &[u8], at: usize) -> u64
     requires { at + 8 ≤ length bytes.now }
-    ensures { result ≡ number64 at bytes.now }
+    ensures { result ≡ number64 order at bytes.now }
 {
-    let first = number32(ByteOrder::Big, bytes, at) as u64;
-    let second = number32(ByteOrder::Big, bytes, at + 4) as u64;
-    first * 4_294_967_296 + second
+    let first = number32(order, bytes, at) as u64;
+    let second = number32(order, bytes, at + 4) as u64;
+    match order {
+        ByteOrder::Big => first * 4_294_967_296 + second,
+        ByteOrder::Little => second * 4_294_967_296 + first,
+    }
 }

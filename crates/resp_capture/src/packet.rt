@@ -51,6 +51,7 @@ pub fn read_packet(link: LinkType, frame: &[u8]) -> Packet<'_>
     ensures none { UnlessSegment result ((segment : Segment) →
         HasSegment link frame.now segment → ⊥) }
     ensures fragment { IfFragment result (HasFragment link frame.now) }
+    ensures no_fragment { HasFragment link frame.now → result ≡ Packet.Fragment }
 {
     let Some(packet) = packet_of(link, frame) else {
         return Packet::Other;

@@ -1,6 +1,5 @@
 -- Text that is printed part after part.
 use Rattle.std.proofs.Common.{◌≡◌, ℕ, List, ◌++◌, Option, Result, Ok, Err, sym, ap, subst, ◌∙◌}
-use Rattle.std.specs.Result.{IsErrAnd}
 use Rattle.resp_io.specs.Devices.{Appends, count_after}
 use Rattle.resp_print.specs.Written.{AppendsPart}
 use Rattle.resp_print.proofs.WrittenLemmas.{Appends-append}
@@ -8,11 +7,6 @@ use Rattle.resp_print.proofs.Printing.{HasPrintedUpTo, part_next, part_of_more}
 use Rattle.resp_cli_loop.specs.Printed.{PlaysText}
 use Rattle.resp_cli_loop.specs.declared.play.PlayError.{PlayError}
 use Rattle.resp_cli_loop.specs.declared.play.PlayError.TheVariants.{Stopped, Write, Memory}
-
--- an outcome whose error is this one
-pub is_that_error : {X E : Type 0} (r : Result X E) (e : E) → IsErrAnd r (λ found. found ≡ e) → r ≡ Err e
-is_that_error (Ok x) e p = absurd p
-is_that_error (Err found) e p = ap Err p
 
 -- a write of a text failed, before the next
 pub failed_part : (before after : Option (List ℕ)) (failures failures' : ℕ) (text next : List ℕ) →

@@ -150,7 +150,7 @@ impl Client {
     }
 
     /// Reads bytes up to the end of a value, in the version chosen for the value. A fault is kept.
-    fn take(&mut self, piece: &[u8]) -> Result<Fed, Fault>
+    fn take(&mut self, piece: &[u8]) -> Result<Fed<Value>, Fault>
         requires { self.old.fault ≡ None }
         ensures value_whole { WhereTaken self.old (λ front. IfValue result (λ used value.
             TakesValue self.old self.new (front ++ take used piece.now) (datum_of value))) }

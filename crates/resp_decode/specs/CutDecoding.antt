@@ -14,7 +14,6 @@ use Rattle.resp_decode.specs.Keeping.{HasKept, KeepsNothing}
 use Rattle.resp_decode.specs.Standing.{StandsAtFault, TakesFront}
 use Rattle.resp_decode.specs.Weights.{weight_of}
 use Rattle.resp_decode.specs.declared.cut_decoder.CutDecoder.{CutDecoder}
-use Rattle.resp_decode.specs.declared.fed.CutFed.{CutFed}
 
 -- the version and the limits of a decoder
 abbrev pub rules_of : CutDecoder → Rules
@@ -41,14 +40,6 @@ HasFault d fault = StandsAtFault (KeepsNothing d.kept) d.scanner fault
 abbrev pub WeighsWhatIsKept : ℕ → ℕ → List ℕ → Type 0
 WeighsWhatIsKept shown weight front =
     (given : Events) × AreDue front given × (weight ≡ weight_of (cut_construction shown (built_from given)))
-
--- if a value ends after this many bytes of the piece
-abbrev pub IfValue : Result CutFed Fault → (ℕ → CutValue → Type 0) → Type 0
-IfValue result P = IfOk result (λ fed. (value : CutValue) → fed.value ≡ Some value → P fed.used value)
-
--- if no value ends in the piece
-abbrev pub IfNoValue : Result CutFed Fault → (ℕ → Type 0) → Type 0
-IfNoValue result P = IfOk result (λ fed. fed.value ≡ None → P fed.used)
 
 -- the text is a spelling of a value within the rules, of which the first bytes of each text were kept, and no byte of
 -- the next value was read

@@ -39,11 +39,11 @@ abbrev pub WeighsWhatIsDue : ℕ → List ℕ → Type 0
 WeighsWhatIsDue weight front = (given : Events) × AreDue front given × (weight ≡ weight_of (built_from given))
 
 -- if a value ends after this many bytes of the piece
-abbrev pub IfValue : Result Fed Fault → (ℕ → Value → Type 0) → Type 0
-IfValue result P = IfOk result (λ fed. (value : Value) → fed.value ≡ Some value → P fed.used value)
+abbrev pub IfValue : {A : Type 0} → Result (Fed A) Fault → (ℕ → A → Type 0) → Type 0
+IfValue {A} result P = IfOk result (λ fed. (value : A) → fed.value ≡ Some value → P fed.used value)
 
 -- if no value ends in the piece
-abbrev pub IfNoValue : Result Fed Fault → (ℕ → Type 0) → Type 0
+abbrev pub IfNoValue : {A : Type 0} → Result (Fed A) Fault → (ℕ → Type 0) → Type 0
 IfNoValue result P = IfOk result (λ fed. fed.value ≡ None → P fed.used)
 
 -- the text is a spelling of the value within the rules, and no byte of the next value was read

@@ -6,10 +6,11 @@ ghost use Rattle.resp_decode.specs.Standing.{TakesOrStands};
 ghost use Rattle.resp_value.specs.declared.cause.Cause.TheVariants as cause;
 
 use crate::decoder::fault_of;
-use crate::fed::CutFed;
+use crate::fed::Fed;
 use crate::kept::Kept;
 use resp_scan::event::{Busy, Fault};
 use resp_scan::scanner::Scanner;
+use resp_value::CutValue;
 use resp_value::limits::Limits;
 use resp_value::version::Version;
 use std::alloc::Global;
@@ -34,8 +35,8 @@ pub struct CutDecoder {
 }
 
 impl CutDecoder {
-    ghost use Rattle.resp_decode.specs.CutDecoding.{GivesCut, HasFault, HasTaken, IfNoValue, IfValue, WeighsWhatIsKept, WhereTaken, rules_of, shown_of};
-    ghost use Rattle.resp_decode.specs.Decoding.{LacksMemory, RefusesByte, TakesPiece};
+    ghost use Rattle.resp_decode.specs.CutDecoding.{GivesCut, HasFault, HasTaken, WeighsWhatIsKept, WhereTaken, rules_of, shown_of};
+    ghost use Rattle.resp_decode.specs.Decoding.{IfNoValue, IfValue, LacksMemory, RefusesByte, TakesPiece};
     ghost use Rattle.resp_scan.specs.declared.event.Fault.{Fault};
     ghost use Rattle.resp_value.specs.Bounds.{AreBounds};
     ghost use Rattle.resp_value.specs.Rules.{WithinTotal, rules_under};
@@ -78,7 +79,7 @@ impl CutDecoder {
     /// ```
     ///
     /// This prints `6` and `hello, [12]`.
-    pub fn feed(&mut self, piece: &[u8]) -> Result<CutFed, Fault>
+    pub fn feed(&mut self, piece: &[u8]) -> Result<Fed<CutValue>, Fault>
         // A value has ended: the bytes are the encoding of a value, of which the first bytes of
         // each text and the lengths of the longer texts are returned, and the next value may begin.
         ensures value_whole { WhereTaken self.old (λ front. IfValue result (λ used.
@@ -117,10 +118,10 @@ impl CutDecoder {
         };
         let used = scanned.used;
         if !scanned.is_whole {
-            return Ok(CutFed { used, value: None });
+            return Ok(Fed { used, value: None });
         }
         let value = self.kept.take_whole();
-        Ok(CutFed { used, value })
+        Ok(Fed { used, value })
     }
 
     /// Checks that the input may end here.

@@ -12,6 +12,7 @@ use resp_scan::event::{Busy, Fault, ScanError};
 use resp_scan::scanner::Scanner;
 use resp_value::cause::Cause;
 use resp_value::limits::Limits;
+use resp_value::value::Value;
 use resp_value::version::Version;
 use std::alloc::Global;
 
@@ -93,7 +94,7 @@ impl Decoder {
     /// ```
     ///
     /// This prints `false true`.
-    pub fn feed(&mut self, piece: &[u8]) -> Result<Fed, Fault>
+    pub fn feed(&mut self, piece: &[u8]) -> Result<Fed<Value>, Fault>
         // A value has ended: the bytes are its encoding, and the next value may begin.
         ensures value_whole { WhereTaken self.old (λ front. IfValue result (λ used.
             GivesValue (rules_of self.old) self.new (front ++ take used piece.now))) }

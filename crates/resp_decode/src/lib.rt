@@ -20,4 +20,4 @@ mod text;
 pub use all::{AllFault, decode_all};
 pub use cut_decoder::CutDecoder;
 pub use decoder::Decoder;
-pub use fed::{CutFed, Fed};
+pub use fed::Fed;

@@ -5,11 +5,11 @@ ghost use Rattle.std.specs.Str.{is_utf8};
 ghost use Rattle.base64.specs.Engines.{standard};
 ghost use Rattle.base64.specs.GeneralPurpose.{encode_of};
 ghost use Rattle.resp_json.specs.Json.{escape_of, escaped, is_plain, json_string, text_json};
-ghost use Rattle.resp_print.specs.Shown.{hex_digit};
 ghost use Rattle.resp_print.specs.Written.{WritesText};
 
 use base64::engine::general_purpose::STANDARD;
 use resp_io::device::{DeviceFault, Sink};
+use resp_print::hex::hex_digit;
 use resp_print::text::write_text;
 use std::str;
 
@@ -25,14 +25,6 @@ fn is_plain(byte: u8) -> bool
     ensures { result ≡ is_plain byte }
 {
     32 <= byte && byte != b'"' && byte != b'\\'
-}
-
-/// Returns the hexadecimal digit of a number below 16, in lower case.
-fn hex_digit(n: u8) -> u8
-    requires { n < 16 }
-    ensures { result ≡ hex_digit n }
-{
-    if n < 10 { n + b'0' } else { n - 10 + b'a' }
 }
 
 /// Writes the escape of a byte that does not stand for itself.

@@ -1,8 +1,9 @@
 //! The text without colors and with escapes that a painted text stands for.
 
 ghost use Rattle.std.specs.Prelude.{◌≡◌, ◌≤◌, ◌<◌, ◌∷◌, ◌++◌, ℕ, List, length, true, IfSome};
-ghost use Rattle.resp_print.specs.Shown.{hex_digit};
 ghost use Rattle.resp_paint.specs.Plain.{Shows, beyond_sequence, plain_text, shown_byte};
+
+use resp_print::hex::hex_digit;
 
 /// The byte that begins a sequence.
 const ESCAPE: u8 = 27;
@@ -61,12 +62,4 @@ fn after_first(byte: u8, text: &[u8]) -> Option<&[u8]>
 {
     let (first, rest) = text.split_first()?;
     if *first == byte { Some(rest) } else { None }
-}
-
-/// Returns the hexadecimal digit of a number below 16, in lower case.
-fn hex_digit(n: u8) -> u8
-    requires { n < 16 }
-    ensures { result ≡ hex_digit n }
-{
-    if n < 10 { n + b'0' } else { n - 10 + b'a' }
 }

@@ -1,15 +1,14 @@
 -- What is kept of a value, part by part.
-use Rattle.std.proofs.Common.{◌≡◌, ◌⊎◌, inl, inr, ℕ, suc, ◌+◌, ◌<◌, ◌≤◌, Bool, true, false, ltb, get_or, min, Option, Result, Ok, Err, List, [], ◌∷◌, ◌++◌, length, take, drop, refl, sym, ap, ◌∙◌, append_assoc, arith}
+use Rattle.std.proofs.Common.{◌≡◌, inl, inr, ℕ, suc, ◌+◌, Bool, true, false, Option, Result, Ok, Err, List, [], ◌∷◌, ◌++◌, length, take, refl, sym, ap, ◌∙◌, append_assoc, arith}
 use Rattle.std.specs.Prelude.{IsOk, OnOk}
 use Rattle.std.specs.Result.{IsErr}
-use Rattle.std.proofs.lemmas.Bool.{ltb-true, ltb-false}
-use Rattle.std.proofs.lemmas.List.{append-nil, drop_more, length-drop, length-take, take-take}
+use Rattle.std.proofs.lemmas.List.{append-nil, take-take}
 use Rattle.resp_value.specs.Data.{Kind, Scalar, Datum, Data, scalar, aggregate, none, more, data_of_list, count}
 use Rattle.resp_value.specs.Data as d
 use Rattle.resp_value.specs.Cuts.{cut, cut_each, cut_lengths, cut_scalar, kept_part, lengths_of_each, longer, scalar_lengths}
-use Rattle.resp_value.proofs.Cutting.{longer-none, longer-one}
+use Rattle.resp_value.proofs.Cutting.{longer-none}
 use Rattle.resp_print.specs.Kept.{MembersFor, ScalarFor, TextFor, ValueFor}
-use Rattle.resp_print.specs.Shown.{is_cut, shown_part}
+use Rattle.resp_print.specs.Shown.{shown_part}
 
 -- a fact that holds where a call returns Ok
 pub when_ok : {A E : Type 0} (r : Result A E) (P : Type 0) → P → OnOk r P

@@ -1,12 +1,17 @@
 -- Text that is printed part after part.
-use Rattle.std.proofs.Common.{◌≡◌, ℕ, ◌≤◌, List, [], ◌++◌, Option, Result, Ok, Err, refl, sym, ap, subst, ◌∙◌, append_assoc, append-nil, arith}
-use Rattle.std.specs.Result.{IsErr}
+use Rattle.std.proofs.Common.{◌≡◌, ℕ, ◌≤◌, List, [], ◌++◌, Option, Result, Ok, Err, sym, ap, subst, ◌∙◌, append_assoc, append-nil, arith}
+use Rattle.std.specs.Result.{IsErr, IsErrAnd}
 use Rattle.resp_io.specs.Devices.{Appends, count_after}
 use Rattle.resp_print.specs.Printed.{Prints}
 use Rattle.resp_print.specs.Written.{AppendsPart, WritesText}
 use Rattle.resp_print.specs.declared.print_error.PrintError.{PrintError}
 use Rattle.resp_print.specs.declared.print_error.PrintError.TheVariants.{Write, TooDeep}
-use Rattle.resp_print.proofs.WrittenLemmas.{Appends-append, Appends-none, writes_next, writes_part}
+use Rattle.resp_print.proofs.WrittenLemmas.{Appends-append, writes_next, writes_part}
+
+-- an outcome whose error is this one
+pub is_that_error : {X E : Type 0} (r : Result X E) (e : E) → IsErrAnd r (λ found. found ≡ e) → r ≡ Err e
+is_that_error (Ok x) e p = absurd p
+is_that_error (Err found) e p = ap Err p
 
 -- a part of a text after a text that was appended whole
 pub part_next : (a b c : Option (List ℕ)) (text next : List ℕ) → Appends a b text → AppendsPart b c next → AppendsPart a c (text ++ next)

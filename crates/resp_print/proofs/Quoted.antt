@@ -1,8 +1,8 @@
 -- Quoted text.
-use Rattle.std.proofs.Common.{◌≡◌, ℕ, ◌+◌, ◌<◌, ◌≤◌, true, List, [], ◌∷◌, ◌++◌, length, take, drop, get_or, refl, sym, ap, ◌∙◌, add-one}
+use Rattle.std.proofs.Common.{◌≡◌, ℕ, ◌+◌, ◌≤◌, true, List, [], ◌∷◌, ◌++◌, length, take, drop, refl, sym, ap, ◌∙◌}
 use Rattle.std.proofs.lemmas.Grind.{flat_map-append}
 use Rattle.std.proofs.lemmas.List.{length-take-le, take-append-le}
-use Rattle.std.proofs.Math.Seq.{take-add, take-append-add, take-suc}
+use Rattle.std.proofs.Math.Seq.{take-add, take-append-add}
 use Rattle.resp_print.specs.Shown.{is_plain, quoted_byte, quoted_text}
 
 -- what is quoted is quoted part by part

@@ -1,8 +1,7 @@
 -- What was written, piece after piece.
-use Rattle.std.proofs.Common.{◌≡◌, ℕ, List, [], ◌++◌, take, drop, Option, None, Some, Result, Ok, Err, sym, ap, subst, ◌∙◌, append_assoc, append-nil, take-append-drop}
-use Rattle.std.specs.Result.{OnErr, OnOk, IfErr, IsErr}
+use Rattle.std.proofs.Common.{◌≡◌, ℕ, List, [], ◌++◌, Option, None, Some, Result, Ok, Err, sym, ap, subst, ◌∙◌, append_assoc, append-nil}
+use Rattle.std.specs.Result.{IsErr}
 use Rattle.resp_io.specs.Devices.{Appends, count_after}
-use Rattle.resp_io.specs.declared.device.WriteFault.{WriteFault}
 use Rattle.resp_print.specs.Written.{AppendsPart, WritesText}
 
 -- one text was appended, and then another

@@ -3,6 +3,7 @@
 //! [`value::write_value`] writes the lines of a value. [`text`] writes the parts of lines.
 #![tactic(auto)]
 
+pub mod hex;
 pub mod print_error;
 mod quote;
 pub mod text;

@@ -1,7 +1,9 @@
 //! Quotes short blocks of bytes in memory, so that one write is enough for each block.
 
 ghost use Rattle.std.specs.Prelude.{◌≡◌, ◌+◌, ◌++◌, ◌<◌, ◌≤◌, length, take};
-ghost use Rattle.resp_print.specs.Shown.{hex_digit, is_plain, quoted_byte, quoted_text};
+ghost use Rattle.resp_print.specs.Shown.{is_plain, quoted_byte, quoted_text};
+
+use crate::hex::hex_digit;
 
 /// The maximum number of bytes of a block.
 pub(crate) const BLOCK: usize = 64;
@@ -12,15 +14,6 @@ pub(crate) fn is_plain(byte: u8) -> bool
     ensures { result ≡ is_plain byte }
 {
     32 <= byte && byte <= 126 && byte != b'"' && byte != b'\\'
-}
-
-/// Returns the hexadecimal digit of a number below 16, in lower case.
-#[inline(always)]
-fn hex_digit(n: u8) -> u8
-    requires { n < 16 }
-    ensures { result ≡ hex_digit n }
-{
-    if n < 10 { n + b'0' } else { n - 10 + b'a' }
 }
 
 /// Returns four bytes that begin with a byte as it is printed inside quotes, and how many of them

@@ -60,7 +60,8 @@ pub fn write_value<W: Sink>(
         (W.failures writer.new) result (lines_within most level (datum_of value.now))
         (level + depth (datum_of value.now)) }
 {
-    write_lines(value, level, most, &[], &mut 0, writer)
+    let mut lengths: &[u64] = &[];
+    write_lines(value, level, most, &mut lengths, writer)
 }
 
 /// Writes the lines of a value. `shown + 1` bytes of each of its texts were kept. They are the
@@ -107,51 +108,47 @@ pub fn write_cut_value<W: Sink>(
         (W.failures writer.new) result (lines_within (Some shown) level whole)
         (level + depth (datum_of value.now)) }
 {
-    write_lines(value, level, Some(shown), lengths, &mut 0, writer)
+    let mut lengths = lengths;
+    write_lines(value, level, Some(shown), &mut lengths, writer)
 }
 
-/// Writes the lines of a value. The lengths from `at` on are those of its texts and of texts after
-/// it; or there are none.
+/// Writes the lines of a value, and drops the lengths of its texts. The lengths are those of its
+/// texts and of texts after it; or there are none.
 #[cycle(lines)]
 fn write_lines<W: Sink>(
     value: &Value,
     level: u64,
     most: Option<usize>,
-    lengths: &[u64],
-    at: &mut usize,
+    lengths: &mut &[u64],
     writer: &mut W,
 ) -> Result<(), PrintError>
     ensures { (x : Datum) (rest : List ℕ) →
-        ValueFor most (drop at.old lengths.now) (datum_of value.now) x rest →
+        ValueFor most lengths.old.now (datum_of value.now) x rest →
         Prints (W.written writer.old) (W.written writer.new) (W.failures writer.old)
         (W.failures writer.new) result (lines_within most level x)
-        (level + depth (datum_of value.now)) × OnOk result (drop at.new lengths.now ≡ rest) }
+        (level + depth (datum_of value.now)) × OnOk result (lengths.new.now ≡ rest) }
 {
     match value {
         Value::Array(members) => {
-            write_group(b"array\n", members.list(), level, most, lengths, at, writer)
+            write_group(b"array\n", members.list(), level, most, lengths, writer)
         }
         Value::Set(members) => {
-            write_group(b"set\n", members.list(), level, most, lengths, at, writer)
+            write_group(b"set\n", members.list(), level, most, lengths, writer)
         }
         Value::Push(members) => {
-            write_group(b"push\n", members.list(), level, most, lengths, at, writer)
+            write_group(b"push\n", members.list(), level, most, lengths, writer)
         }
-        Value::Map(pairs) => write_map(pairs.list(), level, most, lengths, at, writer),
+        Value::Map(pairs) => write_map(pairs.list(), level, most, lengths, writer),
         Value::Attr(pairs, annotated) => {
             let pairs = pairs.list();
             let Some(deeper) = level.checked_add(1) else {
                 return Err(PrintError::TooDeep);
             };
-            if let Err(error) = write_annotating(pairs, level, deeper, most, lengths, at, writer) {
-                return Err(error);
-            }
-            if let Err(error) = write_lines(annotated, deeper, most, lengths, at, writer) {
-                return Err(error);
-            }
+            write_annotating(pairs, level, deeper, most, lengths, writer)?;
+            write_lines(annotated, deeper, most, lengths, writer)?;
             write_end_line(level, pairs.len() as u64, writer)
         }
-        _ => write_leaf(value, level, most, lengths, at, writer),
+        _ => write_leaf(value, level, most, lengths, writer),
     }
 }
 
@@ -171,7 +168,8 @@ pub fn write_push_value<W: Sink>(
         (lines_within most level (datum_of (value.Push members.now)))
         (level + depth (datum_of (value.Push members.now))) }
 {
-    write_group(b"push\n", members.list(), level, most, &[], &mut 0, writer)
+    let mut lengths: &[u64] = &[];
+    write_group(b"push\n", members.list(), level, most, &mut lengths, writer)
 }
 
 /// Writes the lines of a push, `shown + 1` bytes of whose texts were kept, as [`write_cut_value`]
@@ -193,13 +191,13 @@ pub fn write_cut_push_value<W: Sink>(
         (W.failures writer.new) result (lines_within (Some shown) level whole)
         (level + depth (datum_of (value.Push members.now))) }
 {
+    let mut lengths = lengths;
     write_group(
         b"push\n",
         members.list(),
         level,
         Some(shown),
-        lengths,
-        &mut 0,
+        &mut lengths,
         writer,
     )
 }
@@ -212,29 +210,24 @@ fn write_group<W: Sink>(
     members: &[Value],
     level: u64,
     most: Option<usize>,
-    lengths: &[u64],
-    at: &mut usize,
+    lengths: &mut &[u64],
     writer: &mut W,
 ) -> Result<(), PrintError>
     ensures { (xs : Data) (rest : List ℕ) →
-        MembersFor most (drop at.old lengths.now) (data_of_list (map datum_of members.now)) xs
+        MembersFor most lengths.old.now (data_of_list (map datum_of members.now)) xs
         rest →
         Prints (W.written writer.old) (W.written writer.new) (W.failures writer.old)
         (W.failures writer.new) result
         (group_lines level words.now (member_lines_within most (suc level) xs)
         (length members.now))
         (level + (greatest_depth (data_of_list (map datum_of members.now)) + 1)) ×
-        OnOk result (drop at.new lengths.now ≡ rest) }
+        OnOk result (lengths.new.now ≡ rest) }
 {
     let Some(deeper) = level.checked_add(1) else {
         return Err(PrintError::TooDeep);
     };
-    if let Err(error) = write_first_line(level, words, writer) {
-        return Err(error);
-    }
-    if let Err(error) = write_members(members, deeper, most, lengths, at, writer) {
-        return Err(error);
-    }
+    write_first_line(level, words, writer)?;
+    write_members(members, deeper, most, lengths, writer)?;
     write_end_line(level, members.len() as u64, writer)
 }
 
@@ -244,29 +237,24 @@ fn write_map<W: Sink>(
     pairs: &[(Value, Value)],
     level: u64,
     most: Option<usize>,
-    lengths: &[u64],
-    at: &mut usize,
+    lengths: &mut &[u64],
     writer: &mut W,
 ) -> Result<(), PrintError>
     ensures { (xs : Data) (rest : List ℕ) →
-        MembersFor most (drop at.old lengths.now)
+        MembersFor most lengths.old.now
         (data_of_list (in_turn (map pair_data pairs.now))) xs rest →
         Prints (W.written writer.old) (W.written writer.new) (W.failures writer.old)
         (W.failures writer.new) result
         (group_lines level (codes "map\n") (member_lines_within most (suc level) xs)
         (length pairs.now))
         (level + (greatest_depth (data_of_list (in_turn (map pair_data pairs.now))) + 1)) ×
-        OnOk result (drop at.new lengths.now ≡ rest) }
+        OnOk result (lengths.new.now ≡ rest) }
 {
     let Some(deeper) = level.checked_add(1) else {
         return Err(PrintError::TooDeep);
     };
-    if let Err(error) = write_first_line(level, b"map\n", writer) {
-        return Err(error);
-    }
-    if let Err(error) = write_pairs(pairs, deeper, most, lengths, at, writer) {
-        return Err(error);
-    }
+    write_first_line(level, b"map\n", writer)?;
+    write_pairs(pairs, deeper, most, lengths, writer)?;
     write_end_line(level, pairs.len() as u64, writer)
 }
 
@@ -277,25 +265,20 @@ fn write_annotating<W: Sink>(
     level: u64,
     deeper: u64,
     most: Option<usize>,
-    lengths: &[u64],
-    at: &mut usize,
+    lengths: &mut &[u64],
     writer: &mut W,
 ) -> Result<(), PrintError>
     ensures { (xs : Data) (rest : List ℕ) →
-        MembersFor most (drop at.old lengths.now)
+        MembersFor most lengths.old.now
         (data_of_list (in_turn (map pair_data pairs.now))) xs rest →
         Prints (W.written writer.old) (W.written writer.new) (W.failures writer.old)
         (W.failures writer.new) result
         (annotating_front level (member_lines_within most deeper xs))
         (deeper + greatest_depth (data_of_list (in_turn (map pair_data pairs.now)))) ×
-        OnOk result (drop at.new lengths.now ≡ rest) }
+        OnOk result (lengths.new.now ≡ rest) }
 {
-    if let Err(error) = write_first_line(level, b"attr\n", writer) {
-        return Err(error);
-    }
-    if let Err(error) = write_pairs(pairs, deeper, most, lengths, at, writer) {
-        return Err(error);
-    }
+    write_first_line(level, b"attr\n", writer)?;
+    write_pairs(pairs, deeper, most, lengths, writer)?;
     write_first_line(level, b"of\n", writer)
 }
 
@@ -305,22 +288,19 @@ fn write_members<W: Sink>(
     members: &[Value],
     level: u64,
     most: Option<usize>,
-    lengths: &[u64],
-    at: &mut usize,
+    lengths: &mut &[u64],
     writer: &mut W,
 ) -> Result<(), PrintError>
     ensures { (xs : Data) (rest : List ℕ) →
-        MembersFor most (drop at.old lengths.now) (data_of_list (map datum_of members.now)) xs
+        MembersFor most lengths.old.now (data_of_list (map datum_of members.now)) xs
         rest →
         Prints (W.written writer.old) (W.written writer.new) (W.failures writer.old)
         (W.failures writer.new) result (member_lines_within most level xs)
         (level + greatest_depth (data_of_list (map datum_of members.now))) ×
-        OnOk result (drop at.new lengths.now ≡ rest) }
+        OnOk result (lengths.new.now ≡ rest) }
 {
     for member in members {
-        if let Err(error) = write_lines(member, level, most, lengths, at, writer) {
-            return Err(error);
-        }
+        write_lines(member, level, most, lengths, writer)?;
     }
     Ok(())
 }
@@ -331,25 +311,20 @@ fn write_pairs<W: Sink>(
     pairs: &[(Value, Value)],
     level: u64,
     most: Option<usize>,
-    lengths: &[u64],
-    at: &mut usize,
+    lengths: &mut &[u64],
     writer: &mut W,
 ) -> Result<(), PrintError>
     ensures { (xs : Data) (rest : List ℕ) →
-        MembersFor most (drop at.old lengths.now)
+        MembersFor most lengths.old.now
         (data_of_list (in_turn (map pair_data pairs.now))) xs rest →
         Prints (W.written writer.old) (W.written writer.new) (W.failures writer.old)
         (W.failures writer.new) result (member_lines_within most level xs)
         (level + greatest_depth (data_of_list (in_turn (map pair_data pairs.now)))) ×
-        OnOk result (drop at.new lengths.now ≡ rest) }
+        OnOk result (lengths.new.now ≡ rest) }
 {
     for pair in pairs {
-        if let Err(error) = write_lines(&pair.0, level, most, lengths, at, writer) {
-            return Err(error);
-        }
-        if let Err(error) = write_lines(&pair.1, level, most, lengths, at, writer) {
-            return Err(error);
-        }
+        write_lines(&pair.0, level, most, lengths, writer)?;
+        write_lines(&pair.1, level, most, lengths, writer)?;
     }
     Ok(())
 }
@@ -407,17 +382,16 @@ fn write_leaf<W: Sink>(
     value: &Value,
     level: u64,
     most: Option<usize>,
-    lengths: &[u64],
-    at: &mut usize,
+    lengths: &mut &[u64],
     writer: &mut W,
 ) -> Result<(), PrintError>
     ensures { IsScalar (datum_of value.now) → (x : Datum) (rest : List ℕ) →
-        ValueFor most (drop at.old lengths.now) (datum_of value.now) x rest →
+        ValueFor most lengths.old.now (datum_of value.now) x rest →
         Prints (W.written writer.old) (W.written writer.new) (W.failures writer.old)
         (W.failures writer.new) result (lines_within most level x)
-        (level + depth (datum_of value.now)) × OnOk result (drop at.new lengths.now ≡ rest) }
+        (level + depth (datum_of value.now)) × OnOk result (lengths.new.now ≡ rest) }
 {
-    printed(write_scalar(value, level, most, lengths, at, writer))
+    printed(write_scalar(value, level, most, lengths, writer))
 }
 
 /// Writes the line of a value without members. For another value it writes no line.
@@ -425,55 +399,51 @@ fn write_scalar<W: Sink>(
     value: &Value,
     level: u64,
     most: Option<usize>,
-    lengths: &[u64],
-    at: &mut usize,
+    lengths: &mut &[u64],
     writer: &mut W,
 ) -> Result<(), DeviceFault>
     ensures { IsScalar (datum_of value.now) → (x : Datum) (rest : List ℕ) →
-        ValueFor most (drop at.old lengths.now) (datum_of value.now) x rest →
+        ValueFor most lengths.old.now (datum_of value.now) x rest →
         WritesText (W.written writer.old) (W.written writer.new) (W.failures writer.old)
         (W.failures writer.new) result (lines_within most level x) ×
-        OnOk result (drop at.new lengths.now ≡ rest) }
+        OnOk result (lengths.new.now ≡ rest) }
 {
     write_indentation(writer, level)?;
-    write_scalar_line(value, most, lengths, at, writer)
+    write_scalar_line(value, most, lengths, writer)
 }
 
 /// Writes the line of a value without members, on level 0.
 fn write_scalar_line<W: Sink>(
     value: &Value,
     most: Option<usize>,
-    lengths: &[u64],
-    at: &mut usize,
+    lengths: &mut &[u64],
     writer: &mut W,
 ) -> Result<(), DeviceFault>
     ensures { (s : d.Scalar) → datum_of value.now ≡ d.scalar s → (whole : d.Scalar)
-        (rest : List ℕ) → ScalarFor most (drop at.old lengths.now) s whole rest →
+        (rest : List ℕ) → ScalarFor most lengths.old.now s whole rest →
         WritesText (W.written writer.old) (W.written writer.new) (W.failures writer.old)
         (W.failures writer.new) result (scalar_line_within most whole) ×
-        OnOk result (drop at.new lengths.now ≡ rest) }
+        OnOk result (lengths.new.now ≡ rest) }
 {
     match value {
         Value::Null => write_text(writer, b"null\n"),
         Value::Bool(truth) => write_text(writer, truth_line(*truth)),
         Value::Int(number) => write_number(writer, b"int ", *number, b"\n"),
         Value::Simple(line) => {
-            write_kept_string(b"simple \"", line.text(), most, lengths, at, writer)
+            write_kept_string(b"simple \"", line.text(), most, lengths, writer)
         }
-        Value::Error(line) => {
-            write_kept_string(b"error \"", line.text(), most, lengths, at, writer)
-        }
+        Value::Error(line) => { write_kept_string(b"error \"", line.text(), most, lengths, writer) }
         Value::Double(text) => {
-            write_kept_string(b"double \"", text.text(), most, lengths, at, writer)
+            write_kept_string(b"double \"", text.text(), most, lengths, writer)
         }
         Value::Bulk(content) => {
-            write_kept_string(b"bulk \"", content.list(), most, lengths, at, writer)
+            write_kept_string(b"bulk \"", content.list(), most, lengths, writer)
         }
         Value::BulkError(content) => {
-            write_kept_string(b"bulkerror \"", content.list(), most, lengths, at, writer)
+            write_kept_string(b"bulkerror \"", content.list(), most, lengths, writer)
         }
         Value::Verbatim(format, text) => {
-            write_verbatim(format, text.list(), most, lengths, at, writer)
+            write_verbatim(format, text.list(), most, lengths, writer)
         }
         Value::Big(digits) => write_big(digits, writer),
         _ => Ok(()),
@@ -487,18 +457,19 @@ fn truth_line(truth: bool) -> &'static [u8]
     if truth { b"true\n" } else { b"false\n" }
 }
 
-/// Returns the number of bytes that a text had: the next of the lengths if only the first bytes of
-/// the text were kept.
-fn full_length(text: &[u8], most: Option<usize>, lengths: &[u64], at: &mut usize) -> u64
-    ensures { (whole rest : List ℕ) → TextFor most (drop at.old lengths.now) text.now whole rest →
-        (result ≡ length whole) × (drop at.new lengths.now ≡ rest) }
+/// Returns the number of bytes that a text had. If only the first bytes of the text were kept, this
+/// is the next of the lengths, which is dropped.
+fn full_length(text: &[u8], most: Option<usize>, lengths: &mut &[u64]) -> u64
+    ensures { (whole rest : List ℕ) → TextFor most lengths.old.now text.now whole rest →
+        (result ≡ length whole) × (lengths.new.now ≡ rest) }
 {
-    if !is_cut(text, most) || *at >= lengths.len() {
-        return text.len() as u64;
+    match lengths.split_first() {
+        Some((length, rest)) if is_cut(text, most) => {
+            *lengths = rest;
+            *length
+        }
+        _ => text.len() as u64,
     }
-    let length = lengths[*at];
-    *at += 1;
-    length
 }
 
 /// Writes a word and a quote, the part of a text that is printed, and the number of bytes that the
@@ -507,17 +478,16 @@ fn write_kept_string<W: Sink>(
     word: &[u8],
     text: &[u8],
     most: Option<usize>,
-    lengths: &[u64],
-    at: &mut usize,
+    lengths: &mut &[u64],
     writer: &mut W,
 ) -> Result<(), DeviceFault>
-    ensures { (whole rest : List ℕ) → TextFor most (drop at.old lengths.now) text.now whole rest →
+    ensures { (whole rest : List ℕ) → TextFor most lengths.old.now text.now whole rest →
         WritesText (W.written writer.old) (W.written writer.new) (W.failures writer.old)
         (W.failures writer.new) result (word.now ++ (quoted_text (shown_part most whole) ++
         (codes "\" " ++ count_text most (length whole) ++ codes "\n"))) ×
-        OnOk result (drop at.new lengths.now ≡ rest) }
+        OnOk result (lengths.new.now ≡ rest) }
 {
-    let count = full_length(text, most, lengths, at);
+    let count = full_length(text, most, lengths);
     write_string(word, text, most, count, writer)
 }
 
@@ -567,20 +537,19 @@ fn write_verbatim<W: Sink>(
     format: &[u8; 3],
     text: &[u8],
     most: Option<usize>,
-    lengths: &[u64],
-    at: &mut usize,
+    lengths: &mut &[u64],
     writer: &mut W,
 ) -> Result<(), DeviceFault>
-    ensures { (whole rest : List ℕ) → TextFor most (drop at.old lengths.now) text.now whole rest →
+    ensures { (whole rest : List ℕ) → TextFor most lengths.old.now text.now whole rest →
         WritesText (W.written writer.old) (W.written writer.new) (W.failures writer.old)
         (W.failures writer.new) result (codes "verbatim \"" ++ (quoted_text format.now ++
         (codes "\" \"" ++ (quoted_text (shown_part most whole) ++
         (codes "\" " ++ count_text most (length whole) ++ codes "\n"))))) ×
-        OnOk result (drop at.new lengths.now ≡ rest) }
+        OnOk result (lengths.new.now ≡ rest) }
 {
     write_text(writer, b"verbatim \"")?;
     write_quoted(writer, format)?;
-    write_kept_string(b"\" \"", text, most, lengths, at, writer)
+    write_kept_string(b"\" \"", text, most, lengths, writer)
 }
 
 /// Writes the line of a big number.

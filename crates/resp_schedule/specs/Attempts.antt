@@ -1,5 +1,5 @@
 -- When a connection to a server is tried again, and when it is given up.
-use Rattle.std.specs.Prelude.{◌≡◌, ◌≤◌, ◌<◌, ◌+◌, ◌-◌, ◌*◌, ◌⊎◌, ℕ, Bool, true, false, min, Option, None, Some}
+use Rattle.std.specs.Prelude.{◌≡◌, ◌≤◌, ◌<◌, ◌+◌, ◌-◌, ◌*◌, ◌⊎◌, ℕ, Bool, true, false, max, min, Option, None, Some}
 use Rattle.std.specs.Duration.{as_nanos, max_nanos}
 use Rattle.std.specs.declared.time.Duration.{Duration}
 use Rattle.resp_schedule.specs.declared.attempts.Attempts.{Attempts}
@@ -96,9 +96,7 @@ IsDownUntil time _ = ⊥
 pub record HasPaused (before after : Attempts) : Type 0 where
   pub down : IsDownUntil (min (as_nanos before.time + after.pause * 1000000) max_nanos) after.phase
   pub at_once : HasReplied before.phase → after.pause ≡ 0
-  pub shortest : (HasReplied before.phase → ⊥) → 10 ≤ after.pause
-  pub doubled : (HasReplied before.phase → ⊥) → 5 ≤ before.pause → before.pause ≤ 500 → after.pause ≡ 2 * before.pause
-  pub longest : after.pause ≤ 1000
+  pub doubled : (HasReplied before.phase → ⊥) → after.pause ≡ min (max (2 * before.pause) 10) 1000
   pub same : (after.patience ≡ before.patience) × (after.time ≡ before.time)
 
 -- the time at which the next attempt may begin or the connection is given up, in nanoseconds

@@ -1,6 +1,7 @@
 -- What a schedule knows.
-use Rattle.std.specs.Prelude.{◌≡◌, ◌≢◌, ℕ, ◌+◌, Bool, true, false, List, [], ◌∷◌, ◌++◌, length, slice_index_or, take}
+use Rattle.std.specs.Prelude.{◌≡◌, ◌≢◌, ℕ, ◌+◌, ◌<◌, Bool, true, false, List, [], ◌∷◌, ◌++◌, length, slice_index_or, take}
 use Rattle.std.specs.List.{count_by}
+use Rattle.resp_schedule.specs.Places.{times}
 use Rattle.resp_schedule.specs.declared.schedule.Backlog.{Backlog}
 use Rattle.resp_schedule.specs.declared.schedule.Backlog.TheVariants.{Empty, Waiting, Failing, Stopped}
 use Rattle.resp_schedule.specs.declared.schedule.PlaceState.{PlaceState}
@@ -40,6 +41,12 @@ is_open Queued = true
 -- the number of places that are open
 abbrev pub open_count : Plan → ℕ
 open_count plan = count_by is_open plan.states
+
+-- the place was open once and is closed, and it was not closed in this round
+pub record IsReusable (plan : Plan) (place : ℕ) : Type 0 where
+  pub known : place < length plan.states
+  pub closed : state_of plan place ≡ Closed
+  pub not_gone : times place plan.gone ≡ 0
 
 -- a place goes from one state to another, and all other places keep theirs
 pub record Changes (old new : Plan) (place : ℕ) (before after : PlaceState) : Type 0 where

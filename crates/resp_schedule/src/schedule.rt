@@ -113,7 +113,7 @@ impl Model for Schedule {
 
 impl Schedule {
     ghost use Rattle.resp_schedule.specs.Places.{times, without};
-    ghost use Rattle.resp_schedule.specs.Plans.{Changes, Closes, VisitsNext, due_of, new_plan, next_round, open_count, queued_last, state_of};
+    ghost use Rattle.resp_schedule.specs.Plans.{Changes, Closes, IsReusable, VisitsNext, due_of, new_plan, next_round, open_count, queued_last, state_of};
 
     /// Returns a schedule with at most `most` open places. It allocates nothing.
     pub fn new(alloc: Global, most: usize) -> Schedule
@@ -153,7 +153,7 @@ impl Schedule {
     }
 
     /// Opens a place for a connection, and returns it. The place is idle. It was not closed in this
-    /// round.
+    /// round. A place that was closed in an earlier round is opened again, if there is one.
     ///
     /// # Errors
     ///
@@ -168,6 +168,9 @@ impl Schedule {
         ensures stopped { (result ≡ Err OpenError.Stopped) ↔
             (self.old.backlog ≡ Backlog.Stopped) }
         ensures full { result ≡ Err OpenError.Full → open_count self.old ≡ self.old.most }
+        ensures reused { (place : ℕ) → IsReusable self.old place →
+            (length self.new.states ≡ length self.old.states) ×
+            (result ≢ Err OpenError.OutOfMemory) }
         ensures err { OnErr result (self.new ≡ self.old) }
     {
         if let Backlog::Stopped = self.backlog {
@@ -194,6 +197,8 @@ impl Schedule {
         ensures rest { OnSome result (self.new ≡ record self.old { states = self.new.states }) }
         ensures counted { OnSome result (open_count self.new ≡ open_count self.old + 1) }
         ensures none { IfNone result (self.new ≡ self.old) }
+        ensures none_left { IfNone result ((place : ℕ) → IsReusable self.old place → ⊥) }
+        ensures same_length { length self.new.states ≡ length self.old.states }
     {
         if self.reusable == 0 {
             return None;

@@ -4,13 +4,14 @@ use Rattle.resp_value.specs.Rules.{Rules}
 use Rattle.resp_value.specs.Spellings.{IsSpelling}
 use Rattle.resp_value.specs.Values.{datum_of}
 use Rattle.resp_scan.specs.declared.event.Fault.{Fault}
+use Rattle.resp_value.specs.declared.value.Value.{Value}
 use Rattle.resp_decode.specs.Decoding.{GivesValue, IfValue}
 use Rattle.resp_decode.specs.declared.decoder.Decoder.{Decoder}
 use Rattle.resp_decode.specs.declared.fed.Fed.{Fed}
 use Rattle.resp_server.specs.Reading.{ReadsValue}
 
 -- a value that the decoder gives by these rules is read
-pub value_read : {rules r : Rules} (decoder : Decoder) (result : Result Fed Fault) (text : ℕ → List ℕ) → r ≡ rules →
+pub value_read : {rules r : Rules} (decoder : Decoder) (result : Result (Fed Value) Fault) (text : ℕ → List ℕ) → r ≡ rules →
     IfValue result (λ used. GivesValue r decoder (text used)) → IfValue result (λ used. ReadsValue rules (Some decoder) (text used))
 value_read decoder (Ok fed) text same given = λ value is.
     let g = given value is in

@@ -13,6 +13,7 @@ use resp_scan::event::Fault;
 use resp_value::cause::Cause;
 use resp_value::laws as grammar;
 use resp_value::limits::Limits;
+use resp_value::value::Value;
 use resp_value::version::Version;
 use std::alloc::{AllocError, Global};
 use std::marker::Model;
@@ -53,7 +54,7 @@ impl Reader {
         alloc: Global,
         limits: &Limits,
         piece: &[u8],
-    ) -> Result<Fed, Fault>
+    ) -> Result<Fed<Value>, Fault>
         requires reading { ReadsBy (server_rules limits.now) self.old }
         ensures value_whole { WhereFrontRead self.old (λ front. IfValue result (λ used.
             ReadsValue (server_rules limits.now) self.new (front ++ take used piece.now))) }

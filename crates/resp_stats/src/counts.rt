@@ -79,6 +79,7 @@ impl Counts {
         ensures rows { MayAddRow name.text.items self.old.rows.items self.new.rows.items }
         ensures found { (place : ℕ) → 0 < place → has_name name.text.items self.old.rows.items place ≡ true →
             (0 < result) × (self.new.rows.items ≡ self.old.rows.items) }
+        ensures added { result ≡ 0 → self.new.rows.items ≡ self.old.rows.items }
     {
         let slot = slot_of(&name);
         let recent = self.recent[slot];
@@ -112,6 +113,7 @@ impl Counts {
         ensures rows { MayAddRow name.text.items self.old.rows.items self.new.rows.items }
         ensures found { (place : ℕ) → 0 < place → has_name name.text.items self.old.rows.items place ≡ true →
             (0 < result) × (self.new.rows.items ≡ self.old.rows.items) }
+        ensures added { result ≡ 0 → self.new.rows.items ≡ self.old.rows.items }
     {
         if let Some(place) = self.find(&name) {
             return place;

@@ -8,8 +8,9 @@ ghost use Rattle.resp_tap.specs.Parts.{kept_bytes};
 
 use crate::shown_part::ShownPart;
 use resp_decode::CutDecoder;
-use resp_decode::fed::CutFed;
+use resp_decode::fed::Fed;
 use resp_scan::event::Fault;
+use resp_value::CutValue;
 use resp_value::cause::Cause;
 use resp_value::limits::Limits;
 use resp_value::version::Version;
@@ -37,7 +38,7 @@ pub(crate) struct SideReader {
 impl SideReader {
     ghost use Rattle.std.specs.Prelude.{◌<◌, ◌≤◌, ◌++◌, false, length, take, IfErr, OnOk};
     ghost use Rattle.resp_value.specs.declared.version.Version.TheVariants.{Two};
-    ghost use Rattle.resp_decode.specs.CutDecoding.{IfNoValue, IfValue};
+    ghost use Rattle.resp_decode.specs.Decoding.{IfNoValue, IfValue};
     ghost use Rattle.resp_tap.specs.Sides.{EndsSide, GoesOnSide, HasSent, RefusesSide, WhereSent, side_rules};
 
     /// Returns a reader of a new connection, in version 2, that keeps one byte more of each text than
@@ -64,7 +65,7 @@ impl SideReader {
     /// # Errors
     ///
     /// The faults of [`CutDecoder::feed`], and `OutOfMemory` at byte 0 if there is no memory for a decoder.
-    pub(crate) fn feed(&mut self, piece: &[u8]) -> Result<CutFed, Fault>
+    pub(crate) fn feed(&mut self, piece: &[u8]) -> Result<Fed<CutValue>, Fault>
         requires { self.old.is_reading ≡ true }
         ensures value_whole { WhereSent self.old (λ front. IfValue result (λ used.
             EndsSide (side_rules self.old) self.old.shown.most self.new
@@ -174,7 +175,7 @@ fn begun(
 }
 
 /// Returns the decoder, unless the piece ended with a value.
-fn kept(decoder: Box<CutDecoder>, fed: &CutFed, piece: &[u8]) -> Option<Box<CutDecoder>>
+fn kept(decoder: Box<CutDecoder>, fed: &Fed<CutValue>, piece: &[u8]) -> Option<Box<CutDecoder>>
     ensures nothing_sent { HasTaken decoder.value [] →
         MatchOption result (◌≡◌ {A = List ℕ} [] []) (λ kept. HasTaken kept.value []) }
     ensures inside { fed.now.value ≡ None → result ≡ Some decoder }

@@ -2,7 +2,7 @@
 
 use super::calls::Says;
 use crate::spelling::add_value;
-use resp_decode::{CutDecoder, CutFed, Decoder, Fed};
+use resp_decode::{CutDecoder, Decoder, Fed};
 use resp_scan::Busy;
 use resp_scan::event::Fault;
 use resp_value::{CutValue, Value, Version};
@@ -68,7 +68,7 @@ impl RowDecoder for CutDecoder {
 
     fn feed(&mut self, piece: &[u8]) -> Result<(usize, Option<CutValue>), Fault> {
         match CutDecoder::feed(self, piece) {
-            Ok(CutFed { used, value }) => Ok((used, value)),
+            Ok(Fed { used, value }) => Ok((used, value)),
             Err(fault) => Err(fault),
         }
     }

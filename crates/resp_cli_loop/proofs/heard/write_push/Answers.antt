@@ -3,7 +3,8 @@ use Rattle.resp_value.specs.Values.{datum_of}
 use Rattle.resp_value.specs.declared.value.Value.TheVariants as value
 use Rattle.resp_print.specs.Headings.{push_heading}
 use Rattle.resp_cli_loop.specs.declared.play.PlayError.TheVariants.{Write}
-use Rattle.resp_cli_loop.proofs.Printing.{failed_part, is_that_error, prints_next}
+use Rattle.resp_print.proofs.Printing.{is_that_error}
+use Rattle.resp_cli_loop.proofs.Printing.{failed_part, prints_next}
 use Rattle.resp_cli_loop.proofs.heard.write_push.Goals as goal
 
 pub returns-clause-prints : goal.returns-clause-prints

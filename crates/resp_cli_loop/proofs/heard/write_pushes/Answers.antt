@@ -5,8 +5,8 @@ use Rattle.resp_value.specs.declared.value.Value.TheVariants as value
 use Rattle.resp_wire.specs.Worlds.{pushes_with}
 use Rattle.resp_print.specs.Headings.{push_heading}
 use Rattle.resp_cli_loop.specs.Printed.{HaveTooDeep, push_texts}
-use Rattle.resp_print.proofs.Printing.{printed_as, printed_more}
-use Rattle.resp_cli_loop.proofs.Printing.{is_that_error, prints_on}
+use Rattle.resp_print.proofs.Printing.{is_that_error, printed_as, printed_more}
+use Rattle.resp_cli_loop.proofs.Printing.{prints_on}
 use Rattle.resp_cli_loop.proofs.heard.write_pushes.Goals as goal
 
 pub returns-in_err-write_push-clause-prints : goal.returns-in_err-write_push-clause-prints

@@ -4,8 +4,8 @@ use Rattle.resp_value.specs.Values.{datum_of}
 use Rattle.resp_wire.specs.Worlds.{values_in}
 use Rattle.resp_print.specs.Headings.{reply_heading}
 use Rattle.resp_cli_loop.specs.Printed.{HaveTooDeep, reply_texts}
-use Rattle.resp_print.proofs.Printing.{printed_as, printed_more}
-use Rattle.resp_cli_loop.proofs.Printing.{is_that_error, prints_on}
+use Rattle.resp_print.proofs.Printing.{is_that_error, printed_as, printed_more}
+use Rattle.resp_cli_loop.proofs.Printing.{prints_on}
 use Rattle.resp_cli_loop.proofs.heard.write_replies.Goals as goal
 
 pub returns-in_err-write_reply-clause-prints : goal.returns-in_err-write_reply-clause-prints

@@ -2,7 +2,8 @@ use Rattle.resp_print.specs.Shown.{lines_on}
 use Rattle.resp_value.specs.Values.{datum_of}
 use Rattle.resp_print.specs.Headings.{reply_heading}
 use Rattle.resp_cli_loop.specs.declared.play.PlayError.TheVariants.{Write}
-use Rattle.resp_cli_loop.proofs.Printing.{failed_part, is_that_error, prints_next}
+use Rattle.resp_print.proofs.Printing.{is_that_error}
+use Rattle.resp_cli_loop.proofs.Printing.{failed_part, prints_next}
 use Rattle.resp_cli_loop.proofs.heard.write_reply.Goals as goal
 
 pub returns-clause-prints : goal.returns-clause-prints

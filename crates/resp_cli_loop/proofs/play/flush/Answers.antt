@@ -1,8 +1,8 @@
 use Rattle.std.proofs.Common.{◌≡◌, ◌+◌, ◌++◌, ◌∷◌, [], ◌∙◌, Ok, Err, refl, sym, subst, arith, append_assoc}
 use Rattle.resp_cli_loop.specs.Plays.{PlaysAll, flush_events}
+use Rattle.resp_print.proofs.Printing.{is_that_error}
 use Rattle.resp_cli_loop.proofs.Flushed.{flush_more, flush_splits, stops_within, to_client, to_server}
 use Rattle.resp_cli_loop.proofs.Played.{all_then, plays_none}
-use Rattle.resp_cli_loop.proofs.Printing.{is_that_error}
 use Rattle.resp_cli_loop.proofs.play.flush.Goals as goal
 
 pub loop-index-init : goal.loop-index-init

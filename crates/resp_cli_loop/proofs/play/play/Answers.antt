@@ -1,10 +1,10 @@
 use Rattle.std.proofs.Common.{◌+◌, ◌≤◌, ◌++◌, ◌∙◌, Ok, Err, refl, length, take, drop, sym, ap, subst, arith}
 use Rattle.std.proofs.lemmas.List.{take_all}
 use Rattle.resp_cli_loop.specs.Plays.{PlaysAll, step_events, steps_events}
+use Rattle.resp_print.proofs.Printing.{is_that_error}
 use Rattle.resp_cli_loop.proofs.Flushed.{steps_more, steps_split, stops_within}
 use Rattle.resp_cli_loop.proofs.Played.{all_then, counts_then, plays_none, stops_script}
 use Rattle.resp_cli_loop.proofs.Playing.{at_step_of, fails_to_write, no_stop_at_step, no_stop_kept}
-use Rattle.resp_cli_loop.proofs.Printing.{is_that_error}
 use Rattle.resp_cli_loop.proofs.play.play.Goals as goal
 
 pub loop-line-init : goal.loop-line-init

@@ -6,7 +6,7 @@ use Rattle.resp_io.specs.Devices.{Appends}
 use Rattle.resp_print.specs.Written.{AppendsPart}
 use Rattle.resp_cli_loop.specs.Printed.{counts_text, key_count}
 use Rattle.resp_cli_loop.specs.declared.play.PlayError.TheVariants.{Write}
-use Rattle.resp_cli_loop.proofs.Printing.{is_that_error}
+use Rattle.resp_print.proofs.Printing.{is_that_error}
 use Rattle.resp_cli_loop.proofs.play.write_counts.Goals as goal
 
 -- what holds of the line of counts as it is written holds of it by the definitions

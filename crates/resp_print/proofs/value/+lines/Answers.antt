@@ -9,12 +9,12 @@ use Rattle.resp_print.specs.Printed.{annotating_front, end_line, first_line, gro
 use Rattle.resp_print.specs.Shown.{lines_within, member_lines_within}
 use Rattle.resp_print.proofs.Kept.{next_for, none_for, when_ok}
 use Rattle.resp_print.proofs.Lines.{attribute_for, attribute_is, greatest_depth-front, greatest_depth-last, group_printed, map_printed, next_depth, next_member, next_pair, next_pair_depth}
-use Rattle.resp_print.proofs.Printing.{first_fails, last_printed, printed_all, printed_as, printed_more, prints_as, prints_on, second_fails}
+use Rattle.resp_print.proofs.Printing.{first_fails, is_that_error, last_printed, printed_all, printed_as, printed_more, prints_as, prints_on, second_fails}
 use Rattle.resp_print.proofs.Leaves.{has_no_members}
 use Rattle.resp_print.proofs.value.+lines.Goals as goal
 
-pub write_members-returns-in-Err : goal.write_members-returns-in-Err
-write_members-returns-in-Err g t c = λ xs rest for.
+pub write_members-returns-in_err-write_lines : goal.write_members-returns-in_err-write_lines
+write_members-returns-in_err-write_lines g t c = λ xs rest for.
     let most = c.args.most in
     let level = c.args.level in
     let i = c.loop-member.member-index in
@@ -22,11 +22,11 @@ write_members-returns-in-Err g t c = λ xs rest for.
     let whole = member_lines_within most level xs in
     let (ys, kept, printed) = c.loop-member.invariant.printed xs rest for in
     let next = next_member most _ c.args.members.now i x ys rest c.loop-member-test.true c.member-item.is kept in
-    let depths = next_depth c.args.members.now i x c.loop-member-test.true c.member-item.is in (
-      prints_as (Err c.in-Err.error) _ _ _ _ whole whole (level + depth (datum_of x)) (level + greatest_depth (data_of_list (map datum_of c.args.members.now))) refl
+    let depths = next_depth c.args.members.now i x c.loop-member-test.true c.member-item.is in rw (is_that_error c.from_residual.result _ c.from_residual.ensures.1) (
+      prints_as (Err c.in_err-write_lines.field-0.0) _ _ _ _ whole whole (level + depth (datum_of x)) (level + greatest_depth (data_of_list (map datum_of c.args.members.now))) refl
           (omega (arith, depths.0, c.loop-member.invariant.depth))
-          (prints_on c.in-Err.error whole (lines_within most level next.first) (member_lines_within most level next.others) _ _ _ _ _ _ _
-          (printed_as whole _ _ _ _ _ _ (ap (member_lines_within most level) next.whole) printed) (c.in-Err.ensures next.first next.between next.first_for).0),
+          (prints_on c.in_err-write_lines.field-0.0 whole (lines_within most level next.first) (member_lines_within most level next.others) _ _ _ _ _ _ _
+          (printed_as whole _ _ _ _ _ _ (ap (member_lines_within most level) next.whole) printed) (c.in_err-write_lines.ensures next.first next.between next.first_for).0),
       tt,
     )
 
@@ -42,7 +42,7 @@ write_members-loop-member-preserved g t c =
           let whole = member_lines_within most level xs in
           let (ys, kept, printed) = c.loop-member.invariant.printed xs rest for in
           let next = next_member most _ c.args.members.now i x ys rest c.loop-member-test.true c.member-item.is kept in
-          let written = c.in_default.ensures next.first next.between next.first_for in (
+          let written = c.in_ok-write_lines.ensures next.first next.between next.first_for in (
             next.others,
             subst (λ ns. MembersFor most ns (data_of_list (map datum_of (drop (i + 1) c.args.members.now))) next.others rest) (sym written.1) next.others_for,
             printed_more whole (lines_within most level next.first) (member_lines_within most level next.others) _ _ _ _ _ _
@@ -57,14 +57,14 @@ write_members-returns g t c = λ xs rest for.
     let level = c.args.level in
     let (ys, kept, printed) = c.loop-member.invariant.printed xs rest for in
     let end = drop_all c.loop-member.member-index c.args.members.now c.loop-member-test.false in
-    let lengths = drop c.loop-member.at c.args.lengths.now in
+    let lengths = c.loop-member.lengths.now in
     let left = none_for most lengths ys rest (subst (λ ms. MembersFor most lengths (data_of_list (map datum_of ms)) ys rest) end kept) in (
       printed_all (member_lines_within most level xs) _ _ _ _ (printed_as _ _ _ _ _ _ _ (ap (member_lines_within most level) left.0) printed),
       left.1,
     )
 
-pub write_pairs-returns-in-Err : goal.write_pairs-returns-in-Err
-write_pairs-returns-in-Err g t c = λ xs rest for.
+pub write_pairs-returns-in_err-write_lines : goal.write_pairs-returns-in_err-write_lines
+write_pairs-returns-in_err-write_lines g t c = λ xs rest for.
     let most = c.args.most in
     let level = c.args.level in
     let i = c.loop-pair.pair-index in
@@ -72,16 +72,16 @@ write_pairs-returns-in-Err g t c = λ xs rest for.
     let whole = member_lines_within most level xs in
     let (ys, kept, printed) = c.loop-pair.invariant.printed xs rest for in
     let next = next_pair most _ c.args.pairs.now i x ys rest c.loop-pair-test.true c.pair-item.is kept in
-    let (first, second, others) = next_pair_depth c.args.pairs.now i x c.loop-pair-test.true c.pair-item.is in (
-      prints_as (Err c.in-Err.error) _ _ _ _ whole whole (level + depth (datum_of x.0)) (level + greatest_depth (data_of_list (in_turn (map pair_data c.args.pairs.now)))) refl
+    let (first, second, others) = next_pair_depth c.args.pairs.now i x c.loop-pair-test.true c.pair-item.is in rw (is_that_error c.from_residual.result _ c.from_residual.ensures.1) (
+      prints_as (Err c.in_err-write_lines.field-0.0) _ _ _ _ whole whole (level + depth (datum_of x.0)) (level + greatest_depth (data_of_list (in_turn (map pair_data c.args.pairs.now)))) refl
           (omega (arith, first, c.loop-pair.invariant.depth))
-          (prints_on c.in-Err.error whole (lines_within most level next.first) (member_lines_within most level next.others) _ _ _ _ _ _ _
-          (printed_as whole _ _ _ _ _ _ (ap (member_lines_within most level) next.whole) printed) (c.in-Err.ensures next.first next.between next.first_for).0),
+          (prints_on c.in_err-write_lines.field-0.0 whole (lines_within most level next.first) (member_lines_within most level next.others) _ _ _ _ _ _ _
+          (printed_as whole _ _ _ _ _ _ (ap (member_lines_within most level) next.whole) printed) (c.in_err-write_lines.ensures next.first next.between next.first_for).0),
       tt,
     )
 
-pub write_pairs-returns-in-Err-write_lines : goal.write_pairs-returns-in-Err-write_lines
-write_pairs-returns-in-Err-write_lines g t c = λ xs rest for.
+pub write_pairs-returns-in_err-write_lines-2 : goal.write_pairs-returns-in_err-write_lines-2
+write_pairs-returns-in_err-write_lines-2 g t c = λ xs rest for.
     let most = c.args.most in
     let level = c.args.level in
     let i = c.loop-pair.pair-index in
@@ -90,17 +90,17 @@ write_pairs-returns-in-Err-write_lines g t c = λ xs rest for.
     let (ys, kept, printed) = c.loop-pair.invariant.printed xs rest for in
     let next = next_pair most _ c.args.pairs.now i x ys rest c.loop-pair-test.true c.pair-item.is kept in
     let (first, second, others) = next_pair_depth c.args.pairs.now i x c.loop-pair-test.true c.pair-item.is in
-    let written = c.in_default.ensures next.first next.between next.first_for in
+    let written = c.in_ok-write_lines.ensures next.first next.between next.first_for in
     let rest_data = data_of_list (in_turn (map pair_data (drop (i + 1) c.args.pairs.now))) in
     let value = next_for most _ (datum_of x.1) rest_data next.others rest
-    (subst (λ ns. MembersFor most ns (d.more (datum_of x.1) rest_data) next.others rest) (sym written.1) next.others_for) in (
-      prints_as (Err c.in-Err-write_lines.error) _ _ _ _ whole whole (level + depth (datum_of x.1)) (level + greatest_depth (data_of_list (in_turn (map pair_data c.args.pairs.now)))) refl
+    (subst (λ ns. MembersFor most ns (d.more (datum_of x.1) rest_data) next.others rest) (sym written.1) next.others_for) in rw (is_that_error c.from_residual-in_err-write_lines-2.result _ c.from_residual-in_err-write_lines-2.ensures.1) (
+      prints_as (Err c.in_err-write_lines-2.field-0.0) _ _ _ _ whole whole (level + depth (datum_of x.1)) (level + greatest_depth (data_of_list (in_turn (map pair_data c.args.pairs.now)))) refl
           (omega (arith, second, c.loop-pair.invariant.depth))
-          (prints_on c.in-Err-write_lines.error whole (lines_within most level value.first) (member_lines_within most level value.others) _ _ _ _ _ _ _
+          (prints_on c.in_err-write_lines-2.field-0.0 whole (lines_within most level value.first) (member_lines_within most level value.others) _ _ _ _ _ _ _
           (printed_as whole _ _ _ _ _ _ (ap (member_lines_within most level) value.whole)
           (printed_more whole (lines_within most level next.first) (member_lines_within most level next.others) _ _ _ _ _ _
           (printed_as whole _ _ _ _ _ _ (ap (member_lines_within most level) next.whole) printed) written.0))
-          (c.in-Err-write_lines.ensures value.first value.between value.first_for).0),
+          (c.in_err-write_lines-2.ensures value.first value.between value.first_for).0),
       tt,
     )
 
@@ -117,10 +117,10 @@ write_pairs-loop-pair-preserved g t c =
           let whole = member_lines_within most level xs in
           let (ys, kept, printed) = c.loop-pair.invariant.printed xs rest for in
           let next = next_pair most _ c.args.pairs.now i x ys rest c.loop-pair-test.true c.pair-item.is kept in
-          let written = c.in_default.ensures next.first next.between next.first_for in
+          let written = c.in_ok-write_lines.ensures next.first next.between next.first_for in
           let value = next_for most _ (datum_of x.1) rest_data next.others rest
           (subst (λ ns. MembersFor most ns (d.more (datum_of x.1) rest_data) next.others rest) (sym written.1) next.others_for) in
-          let second_written = c.in_default-write_lines.ensures value.first value.between value.first_for in (
+          let second_written = c.in_ok-write_lines-2.ensures value.first value.between value.first_for in (
             value.others,
             subst (λ ns. MembersFor most ns rest_data value.others rest) (sym second_written.1) value.others_for,
             printed_more whole (lines_within most level value.first) (member_lines_within most level value.others) _ _ _ _ _ _
@@ -137,30 +137,30 @@ write_pairs-returns g t c = λ xs rest for.
     let level = c.args.level in
     let (ys, kept, printed) = c.loop-pair.invariant.printed xs rest for in
     let end = drop_all c.loop-pair.pair-index c.args.pairs.now c.loop-pair-test.false in
-    let lengths = drop c.loop-pair.at c.args.lengths.now in
+    let lengths = c.loop-pair.lengths.now in
     let left = none_for most lengths ys rest (subst (λ ps. MembersFor most lengths (data_of_list (in_turn (map pair_data ps))) ys rest) end kept) in (
       printed_all (member_lines_within most level xs) _ _ _ _ (printed_as _ _ _ _ _ _ _ (ap (member_lines_within most level) left.0) printed),
       left.1,
     )
 
-pub write_group-returns-in-Err : goal.write_group-returns-in-Err
-write_group-returns-in-Err g t c = λ xs rest for.
-    let level = c.args.level in (
-      first_fails c.in-Err.error _ _ _ _ (first_line level c.args.words.now) (member_lines_within c.args.most (suc level) xs ++ end_line level (length c.args.members.now)) _ 0 _ refl
-          (omega arith) c.in-Err.ensures,
+pub write_group-returns-in_err-write_first_line : goal.write_group-returns-in_err-write_first_line
+write_group-returns-in_err-write_first_line g t c = λ xs rest for.
+    let level = c.args.level in rw (is_that_error c.from_residual.result _ c.from_residual.ensures.1) (
+      first_fails c.in_err-write_first_line.field-0.0 _ _ _ _ (first_line level c.args.words.now) (member_lines_within c.args.most (suc level) xs ++ end_line level (length c.args.members.now)) _ 0 _ refl
+          (omega arith) c.in_err-write_first_line.ensures,
       tt,
     )
 
-pub write_group-returns-in-Err-write_members : goal.write_group-returns-in-Err-write_members
-write_group-returns-in-Err-write_members g t c = λ xs rest for.
+pub write_group-returns-in_err-write_members : goal.write_group-returns-in_err-write_members
+write_group-returns-in_err-write_members g t c = λ xs rest for.
     let level = c.args.level in
     let ys = data_of_list (map datum_of c.args.members.now) in
     let n = length c.args.members.now in
-    let deeper = c.in-Some.ensures.1 in (
-      second_fails c.in-Err-write_members.error _ _ _ _ _ _ (first_line level c.args.words.now) (member_lines_within c.args.most c.in-Some.deeper xs) (end_line level n)
+    let deeper = c.in-Some.ensures.1 in rw (is_that_error c.from_residual-in_err-write_members.result _ c.from_residual-in_err-write_members.ensures.1) (
+      second_fails c.in_err-write_members.field-0.0 _ _ _ _ _ _ (first_line level c.args.words.now) (member_lines_within c.args.most c.in-Some.deeper xs) (end_line level n)
           (group_lines level c.args.words.now (member_lines_within c.args.most (suc level) xs) n) (c.in-Some.deeper + greatest_depth ys) (level + (greatest_depth ys + 1))
           (ap (λ m. group_lines level c.args.words.now (member_lines_within c.args.most m xs) n) (deeper ∙ add-one level)) (omega (arith, deeper))
-          c.in_default-write_first_line.ensures (c.in-Err-write_members.ensures xs rest for).0,
+          c.in_ok-write_first_line.ensures (c.in_err-write_members.ensures xs rest for).0,
       tt,
     )
 
@@ -169,32 +169,32 @@ write_group-returns g t c = λ xs rest for.
     let level = c.args.level in
     let ys = data_of_list (map datum_of c.args.members.now) in
     let n = length c.args.members.now in
-    let written = c.in_default-write_members.ensures xs rest for in (
+    let written = c.in_ok-write_members.ensures xs rest for in (
       last_printed c.write_end_line.result _ _ _ _ _ _ _ _ (first_line level c.args.words.now) (member_lines_within c.args.most c.in-Some.deeper xs) (end_line level n)
           (group_lines level c.args.words.now (member_lines_within c.args.most (suc level) xs) n) 0 (level + (greatest_depth ys + 1))
           (ap (λ m. group_lines level c.args.words.now (member_lines_within c.args.most m xs) n) (c.in-Some.ensures.1 ∙ add-one level)) (omega arith)
-          c.in_default-write_first_line.ensures written.0 c.write_end_line.ensures,
+          c.in_ok-write_first_line.ensures written.0 c.write_end_line.ensures,
       when_ok c.write_end_line.result _ written.1,
     )
 
-pub write_map-returns-in-Err : goal.write_map-returns-in-Err
-write_map-returns-in-Err g t c = λ xs rest for.
-    let level = c.args.level in (
-      first_fails c.in-Err.error _ _ _ _ (first_line level (codes "map\n")) (member_lines_within c.args.most (suc level) xs ++ end_line level (length c.args.pairs.now)) _ 0 _ refl
-          (omega arith) c.in-Err.ensures,
+pub write_map-returns-in_err-write_first_line : goal.write_map-returns-in_err-write_first_line
+write_map-returns-in_err-write_first_line g t c = λ xs rest for.
+    let level = c.args.level in rw (is_that_error c.from_residual.result _ c.from_residual.ensures.1) (
+      first_fails c.in_err-write_first_line.field-0.0 _ _ _ _ (first_line level (codes "map\n")) (member_lines_within c.args.most (suc level) xs ++ end_line level (length c.args.pairs.now)) _ 0 _ refl
+          (omega arith) c.in_err-write_first_line.ensures,
       tt,
     )
 
-pub write_map-returns-in-Err-write_pairs : goal.write_map-returns-in-Err-write_pairs
-write_map-returns-in-Err-write_pairs g t c = λ xs rest for.
+pub write_map-returns-in_err-write_pairs : goal.write_map-returns-in_err-write_pairs
+write_map-returns-in_err-write_pairs g t c = λ xs rest for.
     let level = c.args.level in
     let ys = data_of_list (in_turn (map pair_data c.args.pairs.now)) in
     let n = length c.args.pairs.now in
-    let deeper = c.in-Some.ensures.1 in (
-      second_fails c.in-Err-write_pairs.error _ _ _ _ _ _ (first_line level (codes "map\n")) (member_lines_within c.args.most c.in-Some.deeper xs) (end_line level n)
+    let deeper = c.in-Some.ensures.1 in rw (is_that_error c.from_residual-in_err-write_pairs.result _ c.from_residual-in_err-write_pairs.ensures.1) (
+      second_fails c.in_err-write_pairs.field-0.0 _ _ _ _ _ _ (first_line level (codes "map\n")) (member_lines_within c.args.most c.in-Some.deeper xs) (end_line level n)
           (group_lines level (codes "map\n") (member_lines_within c.args.most (suc level) xs) n) (c.in-Some.deeper + greatest_depth ys) (level + (greatest_depth ys + 1))
           (ap (λ m. group_lines level (codes "map\n") (member_lines_within c.args.most m xs) n) (deeper ∙ add-one level)) (omega (arith, deeper))
-          c.in_default-write_first_line.ensures (c.in-Err-write_pairs.ensures xs rest for).0,
+          c.in_ok-write_first_line.ensures (c.in_err-write_pairs.ensures xs rest for).0,
       tt,
     )
 
@@ -203,29 +203,29 @@ write_map-returns g t c = λ xs rest for.
     let level = c.args.level in
     let ys = data_of_list (in_turn (map pair_data c.args.pairs.now)) in
     let n = length c.args.pairs.now in
-    let written = c.in_default-write_pairs.ensures xs rest for in (
+    let written = c.in_ok-write_pairs.ensures xs rest for in (
       last_printed c.write_end_line.result _ _ _ _ _ _ _ _ (first_line level (codes "map\n")) (member_lines_within c.args.most c.in-Some.deeper xs) (end_line level n)
           (group_lines level (codes "map\n") (member_lines_within c.args.most (suc level) xs) n) 0 (level + (greatest_depth ys + 1))
           (ap (λ m. group_lines level (codes "map\n") (member_lines_within c.args.most m xs) n) (c.in-Some.ensures.1 ∙ add-one level)) (omega arith)
-          c.in_default-write_first_line.ensures written.0 c.write_end_line.ensures,
+          c.in_ok-write_first_line.ensures written.0 c.write_end_line.ensures,
       when_ok c.write_end_line.result _ written.1,
     )
 
-pub write_annotating-returns-in-Err : goal.write_annotating-returns-in-Err
-write_annotating-returns-in-Err g t c = λ xs rest for.
-    let level = c.args.level in (
-      first_fails c.in-Err.error _ _ _ _ (first_line level (codes "attr\n")) (member_lines_within c.args.most c.args.deeper xs ++ first_line level (codes "of\n")) _ 0 _ refl
-          (omega arith) c.in-Err.ensures,
+pub write_annotating-returns-in_err-write_first_line : goal.write_annotating-returns-in_err-write_first_line
+write_annotating-returns-in_err-write_first_line g t c = λ xs rest for.
+    let level = c.args.level in rw (is_that_error c.from_residual.result _ c.from_residual.ensures.1) (
+      first_fails c.in_err-write_first_line.field-0.0 _ _ _ _ (first_line level (codes "attr\n")) (member_lines_within c.args.most c.args.deeper xs ++ first_line level (codes "of\n")) _ 0 _ refl
+          (omega arith) c.in_err-write_first_line.ensures,
       tt,
     )
 
-pub write_annotating-returns-in-Err-write_pairs : goal.write_annotating-returns-in-Err-write_pairs
-write_annotating-returns-in-Err-write_pairs g t c = λ xs rest for.
+pub write_annotating-returns-in_err-write_pairs : goal.write_annotating-returns-in_err-write_pairs
+write_annotating-returns-in_err-write_pairs g t c = λ xs rest for.
     let level = c.args.level in
-    let ys = data_of_list (in_turn (map pair_data c.args.pairs.now)) in (
-      second_fails c.in-Err-write_pairs.error _ _ _ _ _ _ (first_line level (codes "attr\n")) (member_lines_within c.args.most c.args.deeper xs) (first_line level (codes "of\n"))
+    let ys = data_of_list (in_turn (map pair_data c.args.pairs.now)) in rw (is_that_error c.from_residual-in_err-write_pairs.result _ c.from_residual-in_err-write_pairs.ensures.1) (
+      second_fails c.in_err-write_pairs.field-0.0 _ _ _ _ _ _ (first_line level (codes "attr\n")) (member_lines_within c.args.most c.args.deeper xs) (first_line level (codes "of\n"))
           _ (c.args.deeper + greatest_depth ys) (c.args.deeper + greatest_depth ys) refl (omega arith)
-          c.in_default.ensures (c.in-Err-write_pairs.ensures xs rest for).0,
+          c.in_ok-write_first_line.ensures (c.in_err-write_pairs.ensures xs rest for).0,
       tt,
     )
 
@@ -233,10 +233,10 @@ pub write_annotating-returns : goal.write_annotating-returns
 write_annotating-returns g t c = λ xs rest for.
     let level = c.args.level in
     let ys = data_of_list (in_turn (map pair_data c.args.pairs.now)) in
-    let written = c.in_default-write_pairs.ensures xs rest for in (
+    let written = c.in_ok-write_pairs.ensures xs rest for in (
       last_printed c.write_first_line-2.result _ _ _ _ _ _ _ _ (first_line level (codes "attr\n")) (member_lines_within c.args.most c.args.deeper xs) (first_line level (codes "of\n"))
           _ 0 (c.args.deeper + greatest_depth ys) refl (omega arith)
-          c.in_default.ensures written.0 c.write_first_line-2.ensures,
+          c.in_ok-write_first_line.ensures written.0 c.write_first_line-2.ensures,
       when_ok c.write_first_line-2.result _ written.1,
     )
 
@@ -264,8 +264,8 @@ write_lines-returns-in-Map g t c = λ x rest for.
     (ap (λ ps. aggregate d.Map (data_of_list (in_turn (map pair_data ps)))) c.list-in-Map.ensures ∙ sym (ap datum_of c.in-Map.is ∙ datum_of-Map c.in-Map.pairs)) for
     (λ xs kept. c.write_map.ensures xs rest kept)
 
-pub write_lines-returns-in-Err : goal.write_lines-returns-in-Err
-write_lines-returns-in-Err g t c = λ x rest for.
+pub write_lines-returns-in_err-write_annotating-in-Attr : goal.write_lines-returns-in_err-write_annotating-in-Attr
+write_lines-returns-in_err-write_annotating-in-Attr g t c = λ x rest for.
     let most = c.args.most in
     let level = c.args.level in
     let ps = in_turn (map pair_data c.list-pairs.result.now) in
@@ -273,15 +273,15 @@ write_lines-returns-in-Err g t c = λ x rest for.
     let n = length c.list-pairs.result.now in
     let deeper = c.in-Some.ensures.1 in
     let value = attribute_is c.args.value.now c.in-Attr.pairs c.in-Attr.annotated c.list-pairs.result.now c.list-pairs.ensures c.in-Attr.is in
-    let a = attribute_for most _ level c.in-Some.deeper c.list-pairs.result.now y c.args.value.now x rest (deeper ∙ add-one level) value for in (
-      first_fails c.in-Err.error _ _ _ _ (annotating_front level (member_lines_within most c.in-Some.deeper a.front)) (lines_within most c.in-Some.deeper a.last ++ end_line level n)
+    let a = attribute_for most _ level c.in-Some.deeper c.list-pairs.result.now y c.args.value.now x rest (deeper ∙ add-one level) value for in rw (is_that_error c.from_residual.result _ c.from_residual.ensures.1) (
+      first_fails c.in_err-write_annotating-in-Attr.field-0.0 _ _ _ _ (annotating_front level (member_lines_within most c.in-Some.deeper a.front)) (lines_within most c.in-Some.deeper a.last ++ end_line level n)
           (lines_within most level x) (c.in-Some.deeper + greatest_depth (data_of_list ps)) (level + depth (datum_of c.args.value.now)) a.shown
-          (omega (arith, ap depth value, deeper, greatest_depth-front ps y)) (c.in-Err.ensures a.front a.between a.front_for).0,
+          (omega (arith, ap depth value, deeper, greatest_depth-front ps y)) (c.in_err-write_annotating-in-Attr.ensures a.front a.between a.front_for).0,
       tt,
     )
 
-pub write_lines-returns-in-Err-write_lines : goal.write_lines-returns-in-Err-write_lines
-write_lines-returns-in-Err-write_lines g t c = λ x rest for.
+pub write_lines-returns-in_err-write_lines-in-Attr : goal.write_lines-returns-in_err-write_lines-in-Attr
+write_lines-returns-in_err-write_lines-in-Attr g t c = λ x rest for.
     let most = c.args.most in
     let level = c.args.level in
     let ps = in_turn (map pair_data c.list-pairs.result.now) in
@@ -291,16 +291,16 @@ write_lines-returns-in-Err-write_lines g t c = λ x rest for.
     let value = ap (λ z. aggregate d.Attr (data_of_list (ps ++ datum_of z ∷ []))) c.deref.ensures
     ∙ attribute_is c.args.value.now c.in-Attr.pairs c.in-Attr.annotated c.list-pairs.result.now c.list-pairs.ensures c.in-Attr.is in
     let a = attribute_for most _ level c.in-Some.deeper c.list-pairs.result.now y c.args.value.now x rest (deeper ∙ add-one level) value for in
-    let front = c.in_default-write_annotating.ensures a.front a.between a.front_for in
-    let last = subst (λ ns. ValueFor most ns y a.last rest) (sym front.1) a.last_for in (
-      second_fails c.in-Err-write_lines.error _ _ _ _ _ _ (annotating_front level (member_lines_within most c.in-Some.deeper a.front)) (lines_within most c.in-Some.deeper a.last)
+    let front = c.in_ok-write_annotating-in-Attr.ensures a.front a.between a.front_for in
+    let last = subst (λ ns. ValueFor most ns y a.last rest) (sym front.1) a.last_for in rw (is_that_error c.from_residual-in_err-write_lines-in-Attr.result _ c.from_residual-in_err-write_lines-in-Attr.ensures.1) (
+      second_fails c.in_err-write_lines-in-Attr.field-0.0 _ _ _ _ _ _ (annotating_front level (member_lines_within most c.in-Some.deeper a.front)) (lines_within most c.in-Some.deeper a.last)
           (end_line level n) (lines_within most level x) (c.in-Some.deeper + depth y) (level + depth (datum_of c.args.value.now)) a.shown
-          (omega (arith, ap depth value, deeper, greatest_depth-last ps y)) front.0 (c.in-Err-write_lines.ensures a.last rest last).0,
+          (omega (arith, ap depth value, deeper, greatest_depth-last ps y)) front.0 (c.in_err-write_lines-in-Attr.ensures a.last rest last).0,
       tt,
     )
 
-pub write_lines-returns-in_default-write_lines : goal.write_lines-returns-in_default-write_lines
-write_lines-returns-in_default-write_lines g t c = λ x rest for.
+pub write_lines-returns-in_ok-write_lines-in-Attr : goal.write_lines-returns-in_ok-write_lines-in-Attr
+write_lines-returns-in_ok-write_lines-in-Attr g t c = λ x rest for.
     let most = c.args.most in
     let level = c.args.level in
     let ps = in_turn (map pair_data c.list-pairs.result.now) in
@@ -310,8 +310,8 @@ write_lines-returns-in_default-write_lines g t c = λ x rest for.
     let value = ap (λ z. aggregate d.Attr (data_of_list (ps ++ datum_of z ∷ []))) c.deref.ensures
     ∙ attribute_is c.args.value.now c.in-Attr.pairs c.in-Attr.annotated c.list-pairs.result.now c.list-pairs.ensures c.in-Attr.is in
     let a = attribute_for most _ level c.in-Some.deeper c.list-pairs.result.now y c.args.value.now x rest (deeper ∙ add-one level) value for in
-    let front = c.in_default-write_annotating.ensures a.front a.between a.front_for in
-    let last = c.in_default-write_lines.ensures a.last rest (subst (λ ns. ValueFor most ns y a.last rest) (sym front.1) a.last_for) in (
+    let front = c.in_ok-write_annotating-in-Attr.ensures a.front a.between a.front_for in
+    let last = c.in_ok-write_lines-in-Attr.ensures a.last rest (subst (λ ns. ValueFor most ns y a.last rest) (sym front.1) a.last_for) in (
       last_printed c.write_end_line.result _ _ _ _ _ _ _ _ (annotating_front level (member_lines_within most c.in-Some.deeper a.front)) (lines_within most c.in-Some.deeper a.last)
           (end_line level n) (lines_within most level x) 0 (level + depth (datum_of c.args.value.now)) a.shown (omega arith) front.0 last.0 c.write_end_line.ensures,
       when_ok c.write_end_line.result _ last.1,

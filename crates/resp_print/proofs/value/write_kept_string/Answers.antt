@@ -1,4 +1,4 @@
-use Rattle.std.proofs.Common.{◌≡◌, ◌++◌, drop, codes, ap, subst, ◌∙◌}
+use Rattle.std.proofs.Common.{◌≡◌, ◌++◌, codes, ap, subst, ◌∙◌}
 use Rattle.resp_print.specs.Shown.{count_text, quoted_text, shown_part}
 use Rattle.resp_print.specs.Written.{WritesText}
 use Rattle.resp_print.proofs.Kept.{same_front, when_ok}
@@ -13,5 +13,5 @@ returns g c = λ whole rest for.
           (ap (λ part. c.args.word.now ++ (quoted_text part ++ (codes "\" " ++ count_text most count ++ codes "\n"))) (same_front most _ _ whole rest for)
           ∙ ap (λ n. c.args.word.now ++ (quoted_text (shown_part most whole) ++ (codes "\" " ++ count_text most n ++ codes "\n"))) counted.0)
           c.write_string.ensures,
-      when_ok c.write_string.result (drop c.full_length-count.new.at c.args.lengths.now ≡ rest) counted.1,
+      when_ok c.write_string.result (c.full_length-count.new.lengths.now ≡ rest) counted.1,
     )

@@ -1,4 +1,4 @@
-use Rattle.std.proofs.Common.{◌≡◌, ap, drop, refl, subst, sym}
+use Rattle.std.proofs.Common.{◌≡◌, ap, refl, subst, sym}
 use Rattle.resp_value.specs.Data.{Datum, aggregate, scalar}
 use Rattle.resp_value.specs.Data as d
 use Rattle.resp_value.specs.Values.{datum_of}
@@ -16,7 +16,7 @@ the_scalar (aggregate k xs) is = absurd is
 
 pub returns-in_err-write_indentation : goal.returns-in_err-write_indentation
 returns-in_err-write_indentation g c = λ is x rest for.
-    let lengths = drop c.args.at.now c.args.lengths.now in
+    let lengths = c.args.lengths.now.now in
     let (s, same) = the_scalar (datum_of c.args.value.now) is in
     let (w, whole, kept) = scalar_for c.args.most lengths s x rest (subst (λ z. ValueFor c.args.most lengths z x rest) same for) in
     let r = c.from_residual.result in (
@@ -27,7 +27,7 @@ returns-in_err-write_indentation g c = λ is x rest for.
 
 pub returns : goal.returns
 returns g c = λ is x rest for.
-    let lengths = drop c.args.at.now c.args.lengths.now in
+    let lengths = c.args.lengths.now.now in
     let (s, same) = the_scalar (datum_of c.args.value.now) is in
     let (w, whole, kept) = scalar_for c.args.most lengths s x rest (subst (λ z. ValueFor c.args.most lengths z x rest) same for) in
     let r = c.write_scalar_line.result in

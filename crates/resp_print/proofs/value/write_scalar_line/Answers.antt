@@ -1,4 +1,4 @@
-use Rattle.std.proofs.Common.{◌≡◌, ◌++◌, ℕ, ℤ, Bool, List, codes, drop, length, refl, ap, subst, sym, ◌∙◌, append_assoc}
+use Rattle.std.proofs.Common.{◌≡◌, ◌++◌, ℕ, ℤ, Bool, List, codes, length, refl, ap, subst, sym, ◌∙◌, append_assoc}
 use Rattle.resp_value.specs.Data as d
 use Rattle.resp_value.specs.Values.{content_bytes, datum_of, line_text}
 use Rattle.resp_value.specs.declared.content.Content.{Content}
@@ -29,7 +29,7 @@ same_scalar x y e = cc
 pub returns-in-Simple : goal.returns-in-Simple
 returns-in-Simple g c = λ s is whole rest for.
     let most = c.args.most in
-    let lengths = drop c.args.at.now c.args.lengths.now in
+    let lengths = c.args.lengths.now.now in
     let of_value : d.Simple (line_text c.in-Simple.line) ≡ s = same_scalar _ _ (sym (ap datum_of c.in-Simple.is) ∙ is) in
     let kept = text_for most lengths (d.Simple (line_text c.in-Simple.line)) whole rest (subst (λ z. ScalarFor most lengths z whole rest) (sym of_value) for) in
     let w = text_of whole in
@@ -42,7 +42,7 @@ returns-in-Simple g c = λ s is whole rest for.
 pub returns-in-Error : goal.returns-in-Error
 returns-in-Error g c = λ s is whole rest for.
     let most = c.args.most in
-    let lengths = drop c.args.at.now c.args.lengths.now in
+    let lengths = c.args.lengths.now.now in
     let of_value : d.Error (line_text c.in-Error.line) ≡ s = same_scalar _ _ (sym (ap datum_of c.in-Error.is) ∙ is) in
     let kept = text_for most lengths (d.Error (line_text c.in-Error.line)) whole rest (subst (λ z. ScalarFor most lengths z whole rest) (sym of_value) for) in
     let w = text_of whole in
@@ -55,7 +55,7 @@ returns-in-Error g c = λ s is whole rest for.
 pub returns-in-Double : goal.returns-in-Double
 returns-in-Double g c = λ s is whole rest for.
     let most = c.args.most in
-    let lengths = drop c.args.at.now c.args.lengths.now in
+    let lengths = c.args.lengths.now.now in
     let of_value : d.Double (line_text c.in-Double.text) ≡ s = same_scalar _ _ (sym (ap datum_of c.in-Double.is) ∙ is) in
     let kept = text_for most lengths (d.Double (line_text c.in-Double.text)) whole rest (subst (λ z. ScalarFor most lengths z whole rest) (sym of_value) for) in
     let w = text_of whole in
@@ -68,7 +68,7 @@ returns-in-Double g c = λ s is whole rest for.
 pub returns-in-Bulk : goal.returns-in-Bulk
 returns-in-Bulk g c = λ s is whole rest for.
     let most = c.args.most in
-    let lengths = drop c.args.at.now c.args.lengths.now in
+    let lengths = c.args.lengths.now.now in
     let of_value : d.Bulk (content_bytes c.in-Bulk.content) ≡ s = same_scalar _ _ (sym (ap datum_of c.in-Bulk.is) ∙ is) in
     let kept = text_for most lengths (d.Bulk (content_bytes c.in-Bulk.content)) whole rest (subst (λ z. ScalarFor most lengths z whole rest) (sym of_value) for) in
     let w = text_of whole in
@@ -81,7 +81,7 @@ returns-in-Bulk g c = λ s is whole rest for.
 pub returns-in-BulkError : goal.returns-in-BulkError
 returns-in-BulkError g c = λ s is whole rest for.
     let most = c.args.most in
-    let lengths = drop c.args.at.now c.args.lengths.now in
+    let lengths = c.args.lengths.now.now in
     let of_value : d.BulkError (content_bytes c.in-BulkError.content) ≡ s = same_scalar _ _ (sym (ap datum_of c.in-BulkError.is) ∙ is) in
     let kept = text_for most lengths (d.BulkError (content_bytes c.in-BulkError.content)) whole rest (subst (λ z. ScalarFor most lengths z whole rest) (sym of_value) for) in
     let w = text_of whole in
@@ -94,7 +94,7 @@ returns-in-BulkError g c = λ s is whole rest for.
 pub returns-in-Verbatim : goal.returns-in-Verbatim
 returns-in-Verbatim g c = λ s is whole rest for.
     let most = c.args.most in
-    let lengths = drop c.args.at.now c.args.lengths.now in
+    let lengths = c.args.lengths.now.now in
     let value = d.Verbatim c.in-Verbatim.format (content_bytes c.in-Verbatim.text) in
     let of_value : value ≡ s = same_scalar _ _ (sym (ap datum_of c.in-Verbatim.is) ∙ is) in
     let kept = text_for most lengths value whole rest (subst (λ z. ScalarFor most lengths z whole rest) (sym of_value) for) in

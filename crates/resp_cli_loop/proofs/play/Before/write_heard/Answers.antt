@@ -5,8 +5,9 @@ use Rattle.resp_session.specs.Worlds.{World, connection_at}
 use Rattle.resp_wire.proofs.worlds.Places.{none_beyond}
 use Rattle.resp_wire.specs.Worlds.{Shows, pushes_with, values_in}
 use Rattle.resp_cli_loop.specs.Printed.{HaveTooDeep, push_texts, reply_texts}
+use Rattle.resp_print.proofs.Printing.{is_that_error}
 use Rattle.resp_cli_loop.proofs.HeardOf.{deep_beyond, never_there, none_at_zero, pushes_beyond, replies_beyond, there_is}
-use Rattle.resp_cli_loop.proofs.Printing.{is_that_error, printed_text, prints_as, prints_next, prints_part}
+use Rattle.resp_cli_loop.proofs.Printing.{printed_text, prints_as, prints_next, prints_part}
 use Rattle.resp_cli_loop.proofs.play.Before.write_heard.Given.{Over}
 use Rattle.resp_cli_loop.proofs.play.Before.write_heard.Goals.{After-beyond-pushes, then-self-eq0-via-then-self-eq0, then-self-eq0-via-else-self-eq0+then-self-clients}
 use Rattle.resp_cli_loop.proofs.play.Before.write_heard.Goals as goal

@@ -1,6 +1,6 @@
 use Rattle.std.proofs.Common.{sym, subst, ◌∙◌}
 use Rattle.resp_cli_loop.specs.Scripts.{SaysSomething}
-use Rattle.resp_cli_loop.proofs.Printing.{is_that_error}
+use Rattle.resp_print.proofs.Printing.{is_that_error}
 use Rattle.resp_cli_loop.proofs.ScriptWords.{no_clients, no_step, says_nothing, where_bad}
 use Rattle.resp_cli_loop.proofs.script.steps.said.Goals as goal
 
