@@ -161,7 +161,7 @@ def middle(here, there):
 def links():
     """A connection of version 6 whose segments come over five links, with headers and tags."""
     order = "<"
-    text = section(order) + b"".join(interface(order, number) for number in (0, 1, 101, 113, 276))
+    text = section(order) + b"".join(interface(order, number) for number in (0, 1, 101, 113, 276, 108, 228, 229))
     here, there = (1, 50000), (2, 6379)
 
     def six(source, target, sequence, flags, data=b"", headers=b"", first=6):
@@ -177,7 +177,9 @@ def links():
         (3, bytes(14) + struct.pack(">H", 0x86DD) + six(there, here, 1, ACK, PONG[:3])),
         (4, struct.pack(">H", 0x86DD) + bytes(18) + six(there, here, 4, ACK, PONG[3:])),
         (1, ethernet(b"something else", 0x0806)),
-    ]
+        (7, six(here, there, 1 + len(PING), ACK, GET)),
+        (5, struct.pack(">I", 24) + six(there, here, 1 + len(PONG), ACK, BULK)),
+    ] + [(6, it) for it in talk(commands=[(PING, PONG)], ends=False)]
     for index, (number, frame) in enumerate(packets):
         text += enhanced(order, number, 1_000_000 + index, frame)
     return text

@@ -1,5 +1,5 @@
 -- Steps over heads of packets.
-use Rattle.std.proofs.Common.{◌≡◌, ℕ, zero, suc, ◌+◌, ◌-◌, ◌<◌, ◌≤◌, true, false, List, Option, None, Some, IfNone, IfSome, ap, inl, inr, arith, drop, length, refl, slice_index, subst, sym, take, ◌∙◌}
+use Rattle.std.proofs.Common.{◌≡◌, ℕ, zero, suc, ◌+◌, ◌-◌, ◌<◌, ◌≤◌, true, false, List, Option, None, Some, IfNone, IfSome, ap, inl, inr, arith, drop, length, slice_index, subst, sym, take, ◌∙◌}
 use Rattle.std.specs.Borrow.{Bor}
 use Rattle.std.proofs.lemmas.List.{take_rest}
 use Rattle.bytes.proofs.Ranges.{drop-take_less}

@@ -1,9 +1,9 @@
 -- Why a file is not read on after some bytes of a block.
 use Rattle.std.proofs.Common.{◌≡◌, ◌⊎◌, ◌∙◌, ℕ, ◌<◌, ◌≤◌, Bool, true, false, List, [], ◌∷◌, ◌++◌, None, Some, Result, Ok, Err, ap, append-nil, arith, cond, eqb, inl, inr, length, refl, subst, sym}
 use Rattle.std.specs.Prelude.{if◌then◌else◌, take, OnOk}
-use Rattle.std.proofs.lemmas.Bool.{eq-eqb, eqb-true, le-ltb, lt-ltb, ne_eqb}
+use Rattle.std.proofs.lemmas.Bool.{eq-eqb, eqb-true, le-ltb, lt-ltb}
 use Rattle.resp_capture.specs.Blocks.{size_of}
-use Rattle.resp_capture.specs.Reading.{AreOfBlock, HasAllBytes, InterfacesAfterBlock, StopsAt, begun_bytes, fault_of, fault_of_block, fault_of_sized, is_section}
+use Rattle.resp_capture.specs.Reading.{AreOfBlock, HasAllBytes, InterfacesAfterBlock, StopsAt, begun_bytes, fault_of, fault_of_block, fault_of_sized}
 use Rattle.resp_capture.specs.declared.block.Format.{Format}
 use Rattle.resp_capture.specs.declared.error.Reason.{Reason}
 use Rattle.resp_capture.specs.declared.error.Reason.TheVariants.{OutOfMemory, WrongLength}

@@ -9,9 +9,9 @@ use Rattle.resp_capture.specs.declared.number.ByteOrder.TheVariants.{Big}
 
 -- the link with this number in the files
 abbrev pub link_of : ℕ → Option LinkType
-link_of n = if n == 0 then Some Loopback else
+link_of n = if (n == 0) || (n == 108) then Some Loopback else
     (if n == 1 then Some Ethernet else
-    (if n == 101 then Some Raw else
+    (if (n == 101) || (n == 228) || (n == 229) then Some Raw else
     (if n == 113 then Some Cooked else
     (if n == 276 then Some CookedTwo else None))))
 

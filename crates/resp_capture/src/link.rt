@@ -8,11 +8,11 @@ use crate::number::{ByteOrder, number16};
 /// How the packets of a capture begin.
 #[derive(Clone, Copy, Debug, PartialEq, Eq)]
 pub enum LinkType {
-    /// Number 0, the loopback of BSD and of macOS: four bytes, and the packet.
+    /// Number 0, the loopback of BSD and of macOS, or 108, that of OpenBSD: four bytes, and the packet.
     Loopback,
     /// Number 1, Ethernet: 14 bytes, or 18 or 22 with tags of virtual networks.
     Ethernet,
-    /// Number 101: the packet alone.
+    /// Number 101, or 228 for version 4 and 229 for version 6: the packet alone.
     Raw,
     /// Number 113, all interfaces of Linux: 16 bytes.
     Cooked,
@@ -26,9 +26,9 @@ impl LinkType {
         ensures { result ≡ link_of number }
     {
         match number {
-            0 => Some(LinkType::Loopback),
+            0 | 108 => Some(LinkType::Loopback),
             1 => Some(LinkType::Ethernet),
-            101 => Some(LinkType::Raw),
+            101 | 228 | 229 => Some(LinkType::Raw),
             113 => Some(LinkType::Cooked),
             276 => Some(LinkType::CookedTwo),
             _ => None,

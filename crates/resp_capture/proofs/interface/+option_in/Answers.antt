@@ -1,4 +1,4 @@
-use Rattle.std.proofs.Common.{rules, ◌≡◌, ◌∙◌, ℕ, List, ◌+◌, ◌*◌, ◌/◌, ap, arith}
+use Rattle.std.proofs.Common.{◌≡◌, ◌∙◌, ℕ, List, ◌+◌, ◌*◌, ◌/◌, ap, arith}
 use Rattle.resp_capture.proofs.HeaderLemmas.{no_option, none_here, option_later}
 use Rattle.resp_capture.specs.Frames.{IsOption, IsOtherOption, next_option}
 use Rattle.resp_capture.proofs.interface.+option_in.Goals as goal

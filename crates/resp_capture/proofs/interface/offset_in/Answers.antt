@@ -1,4 +1,4 @@
-use Rattle.std.proofs.Common.{rules, ◌≡◌, ◌∙◌, ℤ, ap, arith, refl, sym}
+use Rattle.std.proofs.Common.{rules, ◌≡◌, ◌∙◌, ap, refl, sym}
 use Rattle.std.specs.Int.{cast_signed, w64}
 use Rattle.std.proofs.lemmas.Int.{ints, to_z-of_z}
 use Rattle.resp_capture.proofs.HeaderLemmas.{same_option}

@@ -1,4 +1,4 @@
-use Rattle.std.proofs.Common.{rules, ◌≡◌, ◌∙◌, ◌++◌, ◌∷◌, [], List, ℕ, ap, arith, sym, subst}
+use Rattle.std.proofs.Common.{rules, ◌≡◌, ◌∙◌, List, ℕ, ap, arith, sym, subst}
 use Rattle.resp_capture.specs.Frames.{IsDescribed}
 use Rattle.resp_capture.specs.Numbers.{number32}
 use Rattle.resp_capture.specs.declared.number.ByteOrder.TheVariants.{Big}
