@@ -147,6 +147,7 @@ abbrev pub version_text : ℕ → List ℕ
 version_text b =
     if b == byte "_" then codes "RESP3 null in RESP2 input; use -3" else
     if b == byte "#" then codes "RESP3 boolean in RESP2 input; use -3" else
+    if b == byte "," then codes "RESP3 double in RESP2 input; use -3" else
     if b == byte "(" then codes "RESP3 big number in RESP2 input; use -3" else
     if b == byte "!" then codes "RESP3 bulk error in RESP2 input; use -3" else
     if b == byte "=" then codes "RESP3 verbatim string in RESP2 input; use -3" else

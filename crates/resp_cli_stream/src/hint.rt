@@ -178,6 +178,7 @@ fn version_text(byte: u8) -> &'static [u8]
     match byte {
         b'_' => b"RESP3 null in RESP2 input; use -3",
         b'#' => b"RESP3 boolean in RESP2 input; use -3",
+        b',' => b"RESP3 double in RESP2 input; use -3",
         b'(' => b"RESP3 big number in RESP2 input; use -3",
         b'!' => b"RESP3 bulk error in RESP2 input; use -3",
         b'=' => b"RESP3 verbatim string in RESP2 input; use -3",
