@@ -16,3 +16,4 @@ pub mod Alike
 pub mod Cells
 pub mod OneLine
 pub mod Zips
+pub mod Orders

@@ -1,5 +1,5 @@
 -- What is true of the commands of many clients on several lines.
-use Rattle.std.specs.Prelude.{false, slice_get, slice_set, ◌≡◌, ◌+◌, ◌++◌, ◌∷◌, ℕ, List, [], Some, drop, map, take}
+use Rattle.std.specs.Prelude.{◌≢◌, false, slice_get, slice_set, ◌≡◌, ◌+◌, ◌++◌, ◌∷◌, ℕ, List, [], Some, drop, map, take}
 use Rattle.std.specs.List.{AllByRecursion, concat}
 use Rattle.resp_board.specs.declared.ticket.ClientId.{ClientId}
 use Rattle.resp_board.specs.Answers.{front_answers}
@@ -8,6 +8,7 @@ use Rattle.resp_board.specs.Connections.{AreAwaited, IsAnswered, UsesOneLine, af
 use Rattle.resp_board.specs.Differences.{AnswersAnother, RunsDifferForOthers}
 use Rattle.resp_board.specs.Histories.{due_on}
 use Rattle.resp_board.specs.Once.{WaitsOnce, answer_of}
+use Rattle.resp_board.specs.Orders.{RunKeepsOrder, texts_ordered, texts_sent}
 use Rattle.resp_board.specs.Tickets.{answer_to, answers_for, command_of, place_of}
 
 -- a part that waits has no answer, and it waits once and on one line
@@ -87,3 +88,10 @@ abbrev pub AClientAloneGetsAll : Type 0
 AClientAloneGetsAll = (who : ClientId) (line : ℕ) (events : List Event) → IsServedByOne who line events →
     AllByRecursion (λ (owner : ClientId). owner ≡ who) (owners_on line events) →
     due_on who (after_events nothing_asked events) ≡ concat (replies_on line events)
+
+-- The commands of a client that went to a line, followed by those that are held for it on another line, are those that the client
+-- sent to the two, in their order.
+abbrev pub LinesKeepEachClientsOrder : Type 0
+LinesKeepEachClientsOrder = (who : ClientId) (line held : ℕ) (b : Board) (events : List Event) → line ≢ held →
+    RunKeepsOrder who line held b events →
+    texts_ordered who line held (after_events b events) ≡ texts_ordered who line held b ++ texts_sent who line held events

@@ -10,6 +10,7 @@ pub mod Rows
 pub mod Histories
 pub mod Differences
 pub mod Connections
+pub mod Orders
 pub mod Laws
 pub mod Joins
 pub mod Runs

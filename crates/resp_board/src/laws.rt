@@ -1,7 +1,7 @@
 //! Laws of the commands of many clients on several lines. Each law is the contract of a function with
 //! an empty body, so the check of that function proves it.
 
-ghost use Rattle.resp_board.specs.Laws.{AClientAloneGetsAll, APartWaitsOnce, AReplyIsItsOwnersAlone, ATicketFindsItsCommand, AnAnswerStays, EachReplyIsGiven, OneLineIsAConnection, OneLineIsAZip, OthersAnswersChangeNothing};
+ghost use Rattle.resp_board.specs.Laws.{AClientAloneGetsAll, APartWaitsOnce, AReplyIsItsOwnersAlone, ATicketFindsItsCommand, AnAnswerStays, EachReplyIsGiven, LinesKeepEachClientsOrder, OneLineIsAConnection, OneLineIsAZip, OthersAnswersChangeNothing};
 
 /// After any events, a part of a command that waits has no reply, and it waits once, on one line.
 pub fn a_part_waits_once()
@@ -52,4 +52,12 @@ pub fn one_line_is_a_zip()
 /// A client that is alone on a line gets all replies of its server, byte by byte.
 pub fn a_client_alone_gets_all()
     ensures { AClientAloneGetsAll }
+{}
+
+/// While a line keeps its connection, the commands of each client on it, followed by those that are
+/// held for it on another line, are those that the client sent to the two, in their order. The client
+/// sends to the line only while none of its commands is held for it, and commands that are held go to
+/// the line alone.
+pub fn lines_keep_each_clients_order()
+    ensures { LinesKeepEachClientsOrder }
 {}
