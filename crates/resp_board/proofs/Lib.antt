@@ -12,3 +12,8 @@ pub mod Serving
 pub mod Joining
 pub mod Running
 pub mod Failing
+pub mod Alike
+pub mod Cells
+pub mod OneLine
+pub mod Zips
+pub mod Orders

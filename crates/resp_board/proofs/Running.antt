@@ -339,13 +339,14 @@ pub answered-none : (line : ℕ) (text : List ℕ) (m : Machine) → HasAnswered
 answered-none line text m = record { count = 0; begun = omega arith; run = λ h j. j }
 
 pub open-itself : (m : Machine) → KeepsOpen m m
-open-itself m = record { clients = λ who. refl; lines = λ line. refl; last = refl }
+open-itself m = record { clients = λ who. refl; lines = λ line. refl; last = refl; bounds = refl }
 
 pub open-more : (old mid new : Machine) → KeepsOpen old mid → KeepsOpen mid new → KeepsOpen old new
 open-more old mid new a b = record {
   clients = λ who. b.clients who ∙ a.clients who;
   lines = λ line. b.lines line ∙ a.lines line;
   last = b.last ∙ a.last;
+  bounds = b.bounds ∙ a.bounds;
 }
 
 -- what happened after calls that may fail

@@ -41,6 +41,10 @@ pub record Awaits (d : Desk) (number : ℕ) : Type 0 where
   pub after : d.done ≤ number
   pub missing : slice_get (later d) (number - d.done) ≡ Some None
 
+-- the number of commands from the first one without a reply on
+abbrev pub waiting_count : Desk → ℕ
+waiting_count d = d.asked - d.done
+
 -- the client has had 2^64 - 1 commands
 abbrev pub HasNoNumberLeft : Desk → Type 0
 HasNoNumberLeft d = d.asked ≡ 18446744073709551615

@@ -5,9 +5,12 @@ pub mod Queues
 pub mod Boards
 pub mod Once
 pub mod Tickets
-pub mod Laws
 pub mod Seats
 pub mod Rows
 pub mod Histories
+pub mod Differences
+pub mod Connections
+pub mod Orders
+pub mod Laws
 pub mod Joins
 pub mod Runs

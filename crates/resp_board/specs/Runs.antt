@@ -1,10 +1,13 @@
 -- The clients and lines of a board, and what it has run.
-use Rattle.std.specs.Prelude.{◌≡◌, ◌≢◌, ℕ, ◌+◌, ◌≤◌, Bool, false, true, List, [], map, Option, None, Some, IsSomeAnd, is_some, slice_get, if◌then◌else◌}
+use Rattle.std.specs.Prelude.{◌≡◌, ◌≢◌, ℕ, ◌+◌, ◌<◌, ◌≤◌, Bool, false, true, List, [], count_by, length, map, Option, None, Some, IsSomeAnd, is_some, slice_get, if◌then◌else◌}
+use Rattle.std.specs.Option.{option_map}
 use Rattle.resp_board.specs.declared.board.Board.{Board}
+use Rattle.resp_board.specs.declared.bounds.Bounds.{Bounds}
 use Rattle.resp_board.specs.declared.ticket.ClientId.{ClientId}
 use Rattle.resp_board.specs.declared.ticket.Ticket.{Ticket}
 use Rattle.resp_board.specs.Boards.{Event, Lose, is_same}
 use Rattle.resp_board.specs.Desks.{HasNoNumberLeft}
+use Rattle.resp_board.specs.Desks as desk
 use Rattle.resp_board.specs.Histories.{History, with_event, with_replies}
 use Rattle.resp_board.specs.Joins.{Stands}
 use Rattle.resp_board.specs.Rows.{begun_in, tickets_in, unsent_in}
@@ -50,6 +53,10 @@ clients_on m line = map (λ (t : Ticket). t.client) (waiting_on m line)
 abbrev pub begun_on : Board → ℕ → ℕ
 begun_on m line = begun_in (slice_get m.lines.items line)
 
+-- one command fewer waits on a line of which a byte was sent
+abbrev pub HasOneFewerBegun : ℕ → Board → Board → Type 0
+HasOneFewerBegun line old new = begun_on new line + 1 ≡ begun_on old line
+
 -- the bytes that wait to be sent over a line
 abbrev pub unsent_on : Board → ℕ → List ℕ
 unsent_on m line = unsent_in (slice_get m.lines.items line)
@@ -58,9 +65,44 @@ unsent_on m line = unsent_in (slice_get m.lines.items line)
 abbrev pub IsOpen : Board → ClientId → Type 0
 IsOpen m who = is_some (waiting_for m who) ≡ true
 
--- a client with this id is open, and has had as many commands as there are numbers
+abbrev pub bounds_of : Board → Bounds
+bounds_of m = m.bounds
+
+-- the number of open clients
+abbrev pub open_count : Board → ℕ
+open_count m = count_by is_some m.clients.slots
+
+-- the number of a client's commands from the first one without a reply on, if it is open
+abbrev pub waiting_count : Board → ClientId → Option ℕ
+waiting_count m who = option_map desk.waiting_count (desk_in m.clients.slots who)
+
+-- the client is open, and as many of its commands wait as may
+abbrev pub ClientIsFull : Board → ClientId → Type 0
+ClientIsFull m who = IsSomeAnd (waiting_count m who) (λ count. m.bounds.waiting ≤ count)
+
+-- the client is open, and one more command of it may wait
+abbrev pub ClientHasRoom : Board → ClientId → Type 0
+ClientHasRoom m who = IsSomeAnd (waiting_count m who) (λ count. count < m.bounds.waiting)
+
+-- one more command of the client may wait, and the client has had as many commands as there are numbers
 abbrev pub HasNoCommandLeft : Board → ClientId → Type 0
-HasNoCommandLeft m who = IsSomeAnd (desk_in m.clients.slots who) HasNoNumberLeft
+HasNoCommandLeft m who = ClientHasRoom m who × IsSomeAnd (desk_in m.clients.slots who) HasNoNumberLeft
+
+-- one more command of the client may wait, and there is a number for it
+abbrev pub HasCommandLeft : Board → ClientId → Type 0
+HasCommandLeft m who = ClientHasRoom m who × IsSomeAnd (desk_in m.clients.slots who) (λ d. HasNoNumberLeft d → ⊥)
+
+-- one more command of the client may wait, but there is no such line
+abbrev pub LacksLine : Board → ClientId → ℕ → Type 0
+LacksLine m who line = HasCommandLeft m who × (has_line m line ≡ false)
+
+-- other bytes wait to be sent over a line, and with so many more they would be too many
+abbrev pub LineOverflows : Board → ℕ → ℕ → Type 0
+LineOverflows m line more = (0 < length (unsent_on m line)) × (m.bounds.unsent < length (unsent_on m line) + more)
+
+-- one more command of the client may wait, but with this text too many bytes would wait to be sent over the line
+abbrev pub LineIsFull : Board → ClientId → ℕ → List ℕ → Type 0
+LineIsFull m who line text = HasCommandLeft m who × LineOverflows m line (length text)
 
 -- a client has this id or had it
 abbrev pub IsKnown : Board → ClientId → Type 0
@@ -71,6 +113,7 @@ pub record KeepsOpen (old new : Board) : Type 0 where
   pub clients : (who : ClientId) → is_some (waiting_for new who) ≡ is_some (waiting_for old who)
   pub lines : (line : ℕ) → has_line new line ≡ has_line old line
   pub last : new.last ≡ old.last
+  pub bounds : new.bounds ≡ old.bounds
 
 -- each other client has the bytes that it had
 abbrev pub KeepsOthers : ClientId → Board → Board → Type 0
@@ -83,12 +126,14 @@ pub record HasOpened (old new : Board) (who : ClientId) : Type 0 where
   pub itself : IsKnown new who
   pub waiting : (other : ClientId) →
       waiting_for new other ≡ (if is_same other who then Some [] else waiting_for old other)
+  pub bounds : new.bounds ≡ old.bounds
 
 -- the client is not open, and each other client has the bytes that it had
 pub record HasClosed (old new : Board) (who : ClientId) : Type 0 where
   pub waiting : (other : ClientId) →
       waiting_for new other ≡ (if is_same other who then None else waiting_for old other)
   pub last : new.last ≡ old.last
+  pub bounds : new.bounds ≡ old.bounds
 
 -- a line that was not there is there, and each client has the bytes that it had
 pub record HasOpenedLine (old new : Board) (line : ℕ) : Type 0 where
@@ -97,6 +142,7 @@ pub record HasOpenedLine (old new : Board) (line : ℕ) : Type 0 where
   pub others : (other : ℕ) → other ≢ line → has_line new other ≡ has_line old other
   pub waiting : (who : ClientId) → waiting_for new who ≡ waiting_for old who
   pub last : new.last ≡ old.last
+  pub bounds : new.bounds ≡ old.bounds
 
 -- all numbers of clients were given
 abbrev pub HasNoIdLeft : Board → Type 0

@@ -1,12 +1,15 @@
 //! Many clients over many lines.
 
-ghost use Rattle.std.specs.Prelude.{◌≡◌, ◌↔◌, ◌⊎◌, ◌++◌, ◌+◌, ◌<◌, ◌≤◌, ◌∷◌, [], None, false, true, length, take, IfOk, IfSome, IsErrOf, OnErr, OnOk, slice_get};
+ghost use Rattle.std.specs.Prelude.{ℕ, ◌≡◌, ◌↔◌, ◌⊎◌, ◌++◌, ◌+◌, ◌<◌, ◌≤◌, ◌∷◌, [], None, false, true, length, take, IfOk, IfSome, IsErrOf, OnErr, OnOk, slice_get};
 ghost use Rattle.std.specs.List.{concat};
 ghost use Rattle.std.specs.Option.{option_map};
 ghost use Rattle.resp_board.specs.Boards.{Ask, Fail, Lose, Own, Reply};
 ghost use Rattle.resp_board.specs.Histories.{board_of, due_on, nothing_happened, texts_on, with_bytes, with_given};
+ghost use Rattle.resp_board.specs.Answers.{front_answers};
 ghost use Rattle.resp_board.specs.Joins.{StandsSomehow};
+ghost use Rattle.resp_board.specs.Tickets.{answers_for};
 
+use crate::bounds::Bounds;
 use crate::desk::DeskError;
 use crate::error::{AskError, OpenError, OwnError, ReplyError};
 use crate::queue::Queue;
@@ -30,6 +33,7 @@ const MOST_CLIENTS: u64 = 9_223_372_036_854_775_807;
 #[derive(Drop)]
 pub struct Board {
     alloc: Global,
+    bounds: Bounds,
     clients: Slab<Seat>,
     /// The number of the client that was opened last.
     last: u64,
@@ -38,14 +42,18 @@ pub struct Board {
 }
 
 impl Board {
-    ghost use Rattle.resp_board.specs.Runs.{HasAnsweredSome, HasClosed, HasFailedSome, HasLostSome, HasNoCommandLeft, HasNoIdLeft, HasOpened, HasOpenedLine, HasRun, HasRunSome, IsOpen, KeepsOpen, KeepsOthers, KeepsRun, Runs, WhereRun, begun_on, clients_on, has_line, unsent_on, waiting_for, waiting_on};
+    ghost use Rattle.resp_board.specs.Runs.{ClientIsFull, HasAnsweredSome, HasClosed, HasFailedSome, HasLostSome, HasNoCommandLeft, HasNoIdLeft, HasOneFewerBegun, HasOpened, HasOpenedLine, HasRun, HasRunSome, KeepsOpen, KeepsOthers, KeepsRun, LacksLine, LineIsFull, LineOverflows, Runs, WhereRun, begun_on, bounds_of, clients_on, has_line, open_count, unsent_on, waiting_count, waiting_for, waiting_on};
 
     /// Returns a board without clients and lines. Does not allocate.
-    pub fn new(alloc: Global) -> Board
-        ensures { HasRun result nothing_happened }
+    pub fn new(alloc: Global, bounds: Bounds) -> Board
+        ensures run { HasRun result nothing_happened }
+        ensures no_client { (who : ClientId) → waiting_for result who ≡ None }
+        ensures no_line { (line : ℕ) → has_line result line ≡ false }
+        ensures bounds { bounds_of result ≡ bounds }
     {
         Board {
             alloc,
+            bounds,
             clients: Slab::new(alloc),
             last: 0,
             lines: Vec::new(alloc),
@@ -94,28 +102,37 @@ impl Board {
     ///
     /// # Errors
     ///
-    /// `NoClient` if no client with this id is open; otherwise `NoLine` if there is no such line;
-    /// otherwise `TooMany` if the client has had 2^64 - 1 commands; otherwise `OutOfMemory` if an
-    /// allocation fails. Nothing changes.
+    /// `NoClient` if no client with this id is open; otherwise `ClientFull` if as many of its commands
+    /// wait as [`Bounds::waiting`] allows; otherwise `TooMany` if the client has had 2^64 - 1
+    /// commands; otherwise `NoLine` if there is no such line, or `LineFull` if with this command more
+    /// bytes would wait there than [`Bounds::unsent`] allows; otherwise `OutOfMemory` if an allocation
+    /// fails. Nothing changes.
     pub fn ask(&mut self, who: ClientId, line: LineId, text: &[u8]) -> Result<(), AskError>
         ensures run { OnOk result (Runs (Ask who line.place text.now) self.old self.new) }
         ensures no_client { IsErrOf result AskError.NoClient ↔ (waiting_for self.old who ≡ None) }
-        ensures no_line { IsErrOf result AskError.NoLine ↔
-            (IsOpen self.old who × (has_line self.old line.place ≡ false)) }
-        ensures too_many { IsErrOf result AskError.TooMany ↔
-            (HasNoCommandLeft self.old who × (has_line self.old line.place ≡ true)) }
+        ensures client_full { IsErrOf result AskError.ClientFull ↔ ClientIsFull self.old who }
+        ensures too_many { IsErrOf result AskError.TooMany ↔ HasNoCommandLeft self.old who }
+        ensures no_line { IsErrOf result AskError.NoLine ↔ LacksLine self.old who line.place }
+        ensures line_full { IsErrOf result AskError.LineFull ↔
+            LineIsFull self.old who line.place text.now }
         ensures same_open { KeepsOpen self.old self.new }
         ensures unchanged { OnErr result (KeepsRun self.old self.new) }
     {
         let Some(desk) = clients::find(&self.clients, who) else {
             return Err(AskError::NoClient);
         };
-        if line.place >= self.lines.len() {
-            return Err(AskError::NoLine);
+        if desk.waiting() >= self.bounds.waiting {
+            return Err(AskError::ClientFull);
         }
         let Ok(number) = desk.next_number() else {
             return Err(AskError::TooMany);
         };
+        if line.place >= self.lines.len() {
+            return Err(AskError::NoLine);
+        }
+        if !self.line_admits(line, text.len()) {
+            return Err(AskError::LineFull);
+        }
         let ticket = Ticket {
             client: who,
             number,
@@ -128,23 +145,37 @@ impl Board {
         Ok(())
     }
 
+    /// Returns whether a command of this length may be queued on a line.
+    fn line_admits(&self, line: LineId, length: usize) -> bool
+        ensures { (result ≡ false) ↔ LineOverflows self.now line.place length }
+    {
+        let unsent = rows::unsent(&self.lines, line.place).len();
+        unsent == 0 || (unsent <= self.bounds.unsent && length <= self.bounds.unsent - unsent)
+    }
+
     /// Gives a client a reply of the proxy itself to a command. The reply waits until all earlier
     /// commands of the client have their replies.
     ///
     /// # Errors
     ///
-    /// `NoClient` if no client with this id is open; otherwise `TooMany` if the client has had
-    /// 2^64 - 1 commands; otherwise `OutOfMemory` if an allocation fails. Nothing changes.
+    /// `NoClient` if no client with this id is open; otherwise `ClientFull` if as many of its commands
+    /// wait as [`Bounds::waiting`] allows; otherwise `TooMany` if the client has had 2^64 - 1
+    /// commands; otherwise `OutOfMemory` if an allocation fails. Nothing changes.
     pub fn own(&mut self, who: ClientId, text: &[u8]) -> Result<(), OwnError>
         ensures run { OnOk result (Runs (Own who text.now) self.old self.new) }
         ensures no_client { IsErrOf result OwnError.NoClient ↔ (waiting_for self.old who ≡ None) }
+        ensures client_full { IsErrOf result OwnError.ClientFull ↔ ClientIsFull self.old who }
         ensures too_many { IsErrOf result OwnError.TooMany ↔ HasNoCommandLeft self.old who }
         ensures same_open { KeepsOpen self.old self.new }
         ensures unchanged { OnErr result (KeepsRun self.old self.new) }
     {
-        let Some(_) = clients::find(&self.clients, who) else {
+        let Some(desk) = clients::find(&self.clients, who) else {
             return Err(OwnError::NoClient);
         };
+        let full = desk.waiting() >= self.bounds.waiting;
+        if full {
+            return Err(OwnError::ClientFull);
+        }
         match clients::own(&mut self.clients, who, text) {
             Ok(()) => Ok(()),
             Err(DeskError::TooMany) => Err(OwnError::TooMany),
@@ -168,8 +199,7 @@ impl Board {
         ensures unasked { IsErrOf result ReplyError.Unasked ↔ (begun_on self.old line.place ≡ 0) }
         ensures unchanged { OnErr result (KeepsRun self.old self.new) }
         ensures others { IfOk result (λ who. KeepsOthers who self.old self.new) }
-        ensures fewer { OnOk result (begun_on self.new line.place + 1 ≡
-            begun_on self.old line.place) }
+        ensures fewer { OnOk result (HasOneFewerBegun line.place self.old self.new) }
         ensures same_begun { OnErr result (begun_on self.new line.place ≡
             begun_on self.old line.place) }
         ensures same_open { KeepsOpen self.old self.new }
@@ -346,6 +376,28 @@ impl Board {
         ensures same_open { KeepsOpen self.old self.new }
     {
         clients::remove(&mut self.clients, who, count);
+    }
+
+    /// Returns the number of a client's commands from the first one without a reply on, or `None` if
+    /// it is not open.
+    pub fn waiting_of(&self, who: ClientId) -> Option<u64>
+        ensures waiting { result ≡ waiting_count self.now who }
+        ensures unanswered { WhereRun self.now (λ h. IfSome result (λ count.
+            count + length (front_answers (answers_for who (board_of h).entries)) ≡
+            length (answers_for who (board_of h).entries))) }
+        ensures some { HasRunSome self.now }
+    {
+        match clients::find(&self.clients, who) {
+            Some(desk) => Some(desk.waiting()),
+            None => None,
+        }
+    }
+
+    /// Returns the number of open clients.
+    pub fn open_clients(&self) -> usize
+        ensures { result ≡ open_count self.now }
+    {
+        self.clients.len()
     }
 
     /// Closes a client. No client gets the missing replies. Its commands are still sent. Nothing

@@ -45,7 +45,7 @@ pub struct Desk {
 
 impl Desk {
     ghost use Rattle.resp_board.specs.Answers.{front_answers};
-    ghost use Rattle.resp_board.specs.Desks.{Awaits, HasAnswers, HasNoNumberLeft, IsSame, KeepsAnswers, WhereAnswered, later, out_of};
+    ghost use Rattle.resp_board.specs.Desks.{Awaits, HasAnswers, HasNoNumberLeft, IsSame, KeepsAnswers, WhereAnswered, later, out_of, waiting_count};
 
     /// Returns a desk for a client without commands. Does not allocate.
     pub fn new(alloc: Global) -> Desk
@@ -190,7 +190,8 @@ impl Desk {
 
     /// Returns the number of commands from the first one without a reply on.
     pub fn waiting(&self) -> u64
-        ensures { WhereAnswered self.now (λ answers given.
+        ensures count { result ≡ waiting_count self.now }
+        ensures unanswered { WhereAnswered self.now (λ answers given.
             result + length (front_answers answers) ≡ length answers) }
     {
         self.asked - self.done

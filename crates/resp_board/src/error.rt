@@ -22,6 +22,13 @@ pub enum AskError {
     /// There is no such line.
     #[error("there is no such line")]
     NoLine,
+    /// As many commands of the client wait as [`Bounds::waiting`](crate::Bounds) allows.
+    #[error("too many commands of the client wait")]
+    ClientFull,
+    /// With this command more bytes would wait to be sent over the line than
+    /// [`Bounds::unsent`](crate::Bounds) allows.
+    #[error("too many bytes wait to be sent over the line")]
+    LineFull,
     /// No number is left for a command of the client.
     #[error("no number is left for a command of the client")]
     TooMany,
@@ -36,6 +43,9 @@ pub enum OwnError {
     /// No client with this id is open.
     #[error("no client with this id is open")]
     NoClient,
+    /// As many commands of the client wait as [`Bounds::waiting`](crate::Bounds) allows.
+    #[error("too many commands of the client wait")]
+    ClientFull,
     /// No number is left for a command of the client.
     #[error("no number is left for a command of the client")]
     TooMany,

@@ -8,6 +8,7 @@
 
 mod begin;
 mod board;
+mod bounds;
 mod clients;
 mod desk;
 mod early;
@@ -20,6 +21,7 @@ mod text;
 mod ticket;
 
 pub use board::Board;
+pub use bounds::Bounds;
 pub use desk::{Desk, DeskError, TooMany};
 pub use error::{AskError, OpenError, OwnError, ReplyError};
 pub use queue::Queue;

@@ -2,7 +2,9 @@
 //! promised state remains, and the same call succeeds when it is made again.
 
 use crate::outcome::Outcome;
-use resp_board::{Board, ClientId, Desk, DeskError, LineId, OpenError, Queue, ReplyError, Ticket};
+use resp_board::{
+    Board, Bounds, ClientId, Desk, DeskError, LineId, OpenError, Queue, ReplyError, Ticket,
+};
 use std::alloc::Global;
 
 /// Three answers arrive, the last one first.
@@ -70,7 +72,7 @@ pub(crate) fn of_queue(alloc: Global) -> Outcome {
 
 /// A board with a client and a line, and the ids of both.
 fn joined(alloc: Global) -> Option<(Board, ClientId, LineId)> {
-    let mut board = Board::new(alloc);
+    let mut board = Board::new(alloc, Bounds::standard());
     let who = board.open().ok()?;
     let line = board.open_line().ok()?;
     Some((board, who, line))
@@ -78,7 +80,7 @@ fn joined(alloc: Global) -> Option<(Board, ClientId, LineId)> {
 
 /// A client and a line are opened.
 pub(crate) fn of_board_open(alloc: Global) -> Outcome {
-    let mut board = Board::new(alloc);
+    let mut board = Board::new(alloc, Bounds::standard());
     let first = match board.open() {
         Ok(first) => first,
         Err(OpenError::OutOfMemory) => return Outcome::refused(board.open().is_ok()),

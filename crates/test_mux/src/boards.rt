@@ -2,7 +2,7 @@
 
 use crate::draw::Draw;
 use crate::replay::Expected;
-use resp_board::{AskError, Board, ClientId, LineId};
+use resp_board::{AskError, Board, Bounds, ClientId, LineId, OwnError};
 use std::alloc::{AllocError, Global};
 
 /// The number of clients that are open at a time, and of lines.
@@ -12,6 +12,12 @@ const LINES: usize = 3;
 
 /// The length of a command.
 const LENGTH: usize = 3;
+
+/// The bounds are small, so that they are reached.
+const BOUNDS: Bounds = Bounds {
+    waiting: 6,
+    unsent: 20,
+};
 
 /// A command that waits on a line: its client, counted from the first that was opened, and its number.
 #[derive(Clone, Copy)]
@@ -41,15 +47,42 @@ struct World {
     /// The places in `ids` of the clients that are open.
     seats: Vec<usize>,
     rows: Vec<Row>,
-    wrong: u64,
+    counts: Counts,
 }
 
-/// Runs this many events, and returns how often the board and the lists disagreed, and how many
-/// connections were lost.
-pub(crate) fn run(alloc: Global, seed: u64, events: u64) -> Result<(u64, u64), AllocError> {
+/// How often each of these happened.
+#[derive(Clone, Copy)]
+pub(crate) struct Counts {
+    /// How often the board and the lists disagreed.
+    pub(crate) wrong: u64,
+    /// Connections that were lost.
+    pub(crate) lost: u64,
+    /// Commands that were refused because too many commands of their client waited.
+    pub(crate) client_full: u64,
+    /// Commands that were refused because too many bytes waited on their line.
+    pub(crate) line_full: u64,
+}
+
+impl Counts {
+    fn new() -> Counts {
+        Counts {
+            wrong: 0,
+            lost: 0,
+            client_full: 0,
+            line_full: 0,
+        }
+    }
+
+    /// Returns whether each kind of event happened often.
+    pub(crate) fn all_happened(&self) -> bool {
+        self.lost > 5 && self.client_full > 5 && self.line_full > 5
+    }
+}
+
+/// Runs this many events, and returns what happened how often.
+pub(crate) fn run(alloc: Global, seed: u64, events: u64) -> Result<Counts, AllocError> {
     let mut draw = Draw::new(seed);
     let mut world = World::new(alloc)?;
-    let mut lost = 0;
     for event in 0..events {
         let seat = draw.below(CLIENTS as u64) as usize;
         let row = draw.below(LINES as u64) as usize;
@@ -62,7 +95,7 @@ pub(crate) fn run(alloc: Global, seed: u64, events: u64) -> Result<(u64, u64), A
             29 => world.change(seat)?,
             30 => {
                 world.lose(row)?;
-                lost += 1;
+                world.counts.lost += 1;
             }
             _ => {
                 if event % 4 == 0 {
@@ -72,19 +105,19 @@ pub(crate) fn run(alloc: Global, seed: u64, events: u64) -> Result<(u64, u64), A
         }
         world.compare(seat, row)?;
     }
-    Ok((world.wrong, lost))
+    Ok(world.counts)
 }
 
 impl World {
     fn new(alloc: Global) -> Result<World, AllocError> {
         let mut world = World {
             alloc,
-            board: Board::new(alloc),
+            board: Board::new(alloc, BOUNDS),
             ids: Vec::new(alloc),
             expected: Vec::new(alloc),
             seats: Vec::new(alloc),
             rows: Vec::new(alloc),
-            wrong: 0,
+            counts: Counts::new(),
         };
         for _ in 0..CLIENTS {
             let opened = world.open()?;
@@ -106,7 +139,7 @@ impl World {
     fn open(&mut self) -> Result<usize, AllocError> {
         let id = self.board.open().map_err(|_| AllocError)?;
         if self.ids.iter().any(|other| *other == id) {
-            self.wrong += 1;
+            self.counts.wrong += 1;
         }
         self.ids.push(id).map_err(|_| AllocError)?;
         self.expected
@@ -121,9 +154,21 @@ impl World {
         self.board.close(closed);
         let known = self.board.to_client(closed).is_some();
         let refused = self.board.ask(closed, self.rows[0].id, b"no\n") == Err(AskError::NoClient);
-        self.wrong += u64::from(known || !refused);
+        self.counts.wrong += u64::from(known || !refused);
         let opened = self.open()?;
         self.seats[seat] = opened;
+        Ok(())
+    }
+
+    /// Returns how the board has to answer to one more command on a line.
+    fn verdict(&self, client: usize, row: usize) -> Result<(), AskError> {
+        if self.expected[client].waiting() >= BOUNDS.waiting {
+            return Err(AskError::ClientFull);
+        }
+        let unsent = self.rows[row].commands.len() * LENGTH - self.rows[row].sent;
+        if unsent > 0 && unsent + LENGTH > BOUNDS.unsent {
+            return Err(AskError::LineFull);
+        }
         Ok(())
     }
 
@@ -132,9 +177,14 @@ impl World {
         let number = self.expected[client].answers.len();
         let text = [(client % 256) as u8, (number % 256) as u8, b'\n'];
         let line = self.rows[row].id;
-        self.board
-            .ask(self.ids[client], line, &text)
-            .map_err(|_| AllocError)?;
+        let verdict = self.verdict(client, row);
+        let asked = self.board.ask(self.ids[client], line, &text);
+        self.counts.wrong += u64::from(asked != verdict);
+        self.counts.client_full += u64::from(asked == Err(AskError::ClientFull));
+        self.counts.line_full += u64::from(asked == Err(AskError::LineFull));
+        if asked.is_err() {
+            return Ok(());
+        }
         self.expected[client]
             .answers
             .push(None)
@@ -148,9 +198,13 @@ impl World {
     fn own(&mut self, seat: usize, event: u64) -> Result<(), AllocError> {
         let client = self.seats[seat];
         let text = [b'+', (event % 256) as u8, b'\n'];
-        self.board
-            .own(self.ids[client], &text)
-            .map_err(|_| AllocError)?;
+        let full = self.expected[client].waiting() >= BOUNDS.waiting;
+        let given = self.board.own(self.ids[client], &text);
+        self.counts.wrong += u64::from(full != (given == Err(OwnError::ClientFull)));
+        if full {
+            return Ok(());
+        }
+        self.counts.wrong += u64::from(given.is_err());
         let answer = Vec::from_slice(self.alloc, &text)?;
         self.expected[client]
             .answers
@@ -171,12 +225,12 @@ impl World {
         let begun = self.begun(row);
         let answered = self.board.reply(self.rows[row].id, &text);
         if begun == 0 {
-            self.wrong += u64::from(answered.is_ok());
+            self.counts.wrong += u64::from(answered.is_ok());
             return Ok(());
         }
         let first = self.rows[row].commands[self.rows[row].replied];
         if answered != Ok(self.ids[first.client]) {
-            self.wrong += 1;
+            self.counts.wrong += 1;
         }
         self.rows[row].replied += 1;
         self.answer(first, &text)
@@ -193,7 +247,7 @@ impl World {
         let client = self.seats[seat];
         let id = self.ids[client];
         let Some(text) = self.board.to_client(id) else {
-            self.wrong += 1;
+            self.counts.wrong += 1;
             return Ok(());
         };
         let count = text.len().min(most);
@@ -255,8 +309,10 @@ impl World {
             ])?;
         }
         let agree = self.board.to_server(line) == &bytes[self.rows[row].sent..]
-            && self.board.begun(line) == self.begun(row);
-        self.wrong += u64::from(!due) + u64::from(!agree);
+            && self.board.begun(line) == self.begun(row)
+            && self.board.waiting_of(self.ids[client]) == Some(self.expected[client].waiting())
+            && self.board.open_clients() == CLIENTS;
+        self.counts.wrong += u64::from(!due) + u64::from(!agree);
         Ok(())
     }
 }

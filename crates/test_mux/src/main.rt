@@ -50,10 +50,11 @@ fn main(rt: HostRuntime) -> Result<()> {
             "seed {seed}: a line, differences {wrong}, connections lost {}",
             lost > 10
         )?;
-        let (wrong, lost) = boards::run(alloc, seed, BOARD_EVENTS)?;
+        let counts = boards::run(alloc, seed, BOARD_EVENTS)?;
         println!(rt;
-            "seed {seed}: a board, differences {wrong}, connections lost {}",
-            lost > 5
+            "seed {seed}: a board, differences {}, all kinds of events {}",
+            counts.wrong,
+            counts.all_happened()
         )?;
     }
     Ok(())

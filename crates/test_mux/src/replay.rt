@@ -34,4 +34,16 @@ impl Expected {
         }
         Ok(due.starts_with(&self.got) && due.ends_with(waiting))
     }
+
+    /// Returns the number of commands from the first one without an answer on.
+    pub(crate) fn waiting(&self) -> u64 {
+        let mut front = 0;
+        for answer in &self.answers {
+            if answer.is_none() {
+                break;
+            }
+            front += 1;
+        }
+        self.answers.len() as u64 - front
+    }
 }

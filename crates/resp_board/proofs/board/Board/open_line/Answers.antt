@@ -19,6 +19,7 @@ returns-clause-opened c =
       others = l.others;
       waiting = λ who. refl;
       last = refl;
+      bounds = refl;
     }
 
 pub returns-clause-run : goal.returns-clause-run

@@ -6,8 +6,8 @@ use Rattle.resp_board.proofs.Later.{after_length}
 use Rattle.resp_board.proofs.Ready.{front_told}
 use Rattle.resp_board.proofs.desk.Desk.waiting.Goals as goal
 
-pub returns : goal.returns
-returns c answers given h =
+pub returns-clause-unanswered : goal.returns-clause-unanswered
+returns-clause-unanswered c answers given h =
     let d = c.args.self.now in
     let told = ap length (ap front_answers h.whole ∙ front_told h.told (later d) h.missing) in
     omega (
