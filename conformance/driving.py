@@ -212,7 +212,7 @@ class Driver:
             head = [line for line in file if line.lstrip("/*#%-; ").startswith(("needs:", "make:", "run:", "known:", "ours"))]
         told = dict(line.lstrip("/*#%-; ").rstrip().rstrip("*/ ").split(":", 1) for line in head if ":" in line)
         self.needs = told.get("needs", "").split()
-        self.make = told.get("make", "").split()
+        self.make = [line.split(":", 1)[1].rstrip("*/ \n").split() for line in head if line.lstrip("/*#%-; ").startswith("make:")]
         self.run = told.get("run", "").split()
         self.known = told.get("known", "").split()
         self.is_ours = any(line.lstrip("/*#%-; ").startswith("ours") for line in head)
@@ -229,8 +229,8 @@ class Driver:
         for need in fill(self.needs):
             if not (shutil.which(need) or glob.glob(need)):
                 return [], f"{need} is not installed"
-        if self.make:
-            run = subprocess.run(fill(self.make), stdout=subprocess.PIPE, stderr=subprocess.STDOUT, cwd=suite.HERE)
+        for command in self.make:
+            run = subprocess.run(fill(command), stdout=subprocess.PIPE, stderr=subprocess.STDOUT, cwd=suite.HERE)
             if run.returncode:
                 return [], "it can't be built: " + run.stdout.decode(errors="replace").strip()[:300]
         return fill(self.run), ""

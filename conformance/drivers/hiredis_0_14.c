@@ -7,6 +7,10 @@
 #include <stdlib.h>
 #include <string.h>
 
+#ifndef PARSER
+#define PARSER "hiredis 0.14.1"
+#endif
+
 static void text(const char *bytes, size_t length) {
     putchar('"');
     for (size_t at = 0; at < length; at++) {
@@ -67,7 +71,7 @@ static void judge(char *line) {
 
 int main(int count, char **words) {
     if (count > 1 && !strcmp(words[1], "--about")) {
-        puts("{\"parser\": \"hiredis 0.14.1\", \"profiles\": [\"resp2\"], \"same\": [[\"nullbulk\", \"nullarray\"]]}");
+        puts("{\"parser\": \"" PARSER "\", \"profiles\": [\"resp2\"], \"same\": [[\"nullbulk\", \"nullarray\"]]}");
         return 0;
     }
     char *line = NULL;
