@@ -7,8 +7,8 @@
 #include <stdlib.h>
 #include <string.h>
 
-#ifndef PARSER
-#define PARSER "hiredis 0.14.1"
+#ifndef ABOUT
+#define ABOUT "{\"parser\": \"hiredis 0.14.1\", \"profiles\": [\"resp2\"], \"same\": [[\"nullbulk\", \"nullarray\"]]}"
 #endif
 
 static void text(const char *bytes, size_t length) {
@@ -71,7 +71,7 @@ static void judge(char *line) {
 
 int main(int count, char **words) {
     if (count > 1 && !strcmp(words[1], "--about")) {
-        puts("{\"parser\": \"" PARSER "\", \"profiles\": [\"resp2\"], \"same\": [[\"nullbulk\", \"nullarray\"]]}");
+        puts(ABOUT);
         return 0;
     }
     char *line = NULL;
