@@ -225,3 +225,27 @@ begun_next count unbegun left rest mid left-mid unbegun' size some first b =
                 subst (λ n. left + total (take n unbegun) < count) (sym same) (omega (arith, bytes, some))
           ];
     }
+
+sum-both : (xs ys : List ℕ) → total (xs ++ ys) ≡ total xs + total ys
+sum-both [] ys = let e : total ys ≡ 0 + total ys = omega arith in e
+sum-both (x ∷ xs) ys = let s = sum-both xs ys in let e : x + total (xs ++ ys) ≡ (x + total xs) + total ys = omega (arith, s) in e
+
+-- all commands of a line are queued on another
+pub counted_all : (waiting waiting' waiting'' : List Ticket) (unbegun unbegun' unbegun'' : List ℕ) (left left' : ℕ) (out out' out'' : List ℕ) →
+    waiting'' ≡ waiting' ++ waiting → unbegun'' ≡ unbegun' ++ unbegun → out'' ≡ out' ++ drop left out → IsCounted waiting unbegun left out →
+    IsCounted waiting' unbegun' left' out' → IsCounted waiting'' unbegun'' left' out''
+counted_all waiting waiting' waiting'' unbegun unbegun' unbegun'' left left' out out' out'' e f g c d = record {
+  within =
+      let l = ap length e ∙ length-append waiting' waiting in
+      let m = ap length f ∙ length-append unbegun' unbegun in
+      let w = c.within in
+      let v = d.within in
+      omega (arith, l, m, w, v);
+  bytes =
+      let l = ap length g ∙ length-append out' (drop left out) in
+      let r = length-drop left out in
+      let s = ap total f ∙ sum-both unbegun' unbegun in
+      let b = c.bytes in
+      let t = d.bytes in
+      omega (arith, l, r, s, b, t);
+}

@@ -17,3 +17,5 @@ pub mod Cells
 pub mod OneLine
 pub mod Zips
 pub mod Orders
+pub mod Releasing
+pub mod Replacing

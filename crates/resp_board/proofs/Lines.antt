@@ -8,8 +8,8 @@ use Rattle.std.proofs.lemmas.List.Folds.{concat-append}
 use Rattle.resp_board.specs.declared.ticket.Ticket.{Ticket}
 use Rattle.resp_board.specs.Begun.{BeginsMore}
 use Rattle.resp_board.specs.declared.queue.Queue.{Queue}
-use Rattle.resp_board.specs.Queues.{Begins, Command, HasQueued, WhereQueued, Line, texts_of, tickets_of, unsent_of, waiting_tickets, with_answered, with_connection, with_queued, with_sent, without_first}
-use Rattle.resp_board.proofs.Begun.{begins_command, begins_reply, begins_sent, texts-append}
+use Rattle.resp_board.specs.Queues.{Begins, Command, HasQueued, WhereQueued, Line, nothing_queued, texts_of, tickets_of, unsent_of, waiting_commands, waiting_tickets, with_answered, with_commands, with_connection, with_queued, with_sent, without_first}
+use Rattle.resp_board.proofs.Begun.{begins_command, begins_nothing, begins_reply, begins_sent, texts-append}
 
 -- the parts of a queue hold these commands
 pub record Holds (waiting : List Ticket) (out unbegun : List ℕ) (left : ℕ) (l : Line) : Type 0 where
@@ -164,3 +164,60 @@ pushed_as waiting waiting' out out' unbegun unbegun' left l ticket text e f g h 
     (subst (λ bytes. Holds (waiting ++ ticket ∷ []) bytes unbegun' left (with_queued ticket text l)) (sym f)
     (subst (λ ns. Holds (waiting ++ ticket ∷ []) (out ++ text) ns left (with_queued ticket text l)) (sym g)
     (pushed waiting out unbegun left l ticket text h)))
+
+-- more commands
+
+holds-to : (waiting waiting' : List Ticket) (out out' unbegun unbegun' : List ℕ) (left : ℕ) (l l' : Line) → waiting ≡ waiting' → out ≡ out' → unbegun ≡ unbegun' →
+    l ≡ l' → Holds waiting out unbegun left l → Holds waiting' out' unbegun' left l'
+holds-to waiting waiting' out out' unbegun unbegun' left l l' e f g s h =
+    subst (λ ts. Holds ts out' unbegun' left l') e
+    (subst (λ bytes. Holds waiting bytes unbegun' left l') f
+    (subst (λ ns. Holds waiting out ns left l') g (subst (Holds waiting out unbegun left) s h)))
+
+pub pushed-all : (cs : List Command) (waiting : List Ticket) (out unbegun : List ℕ) (left : ℕ) (l : Line) → Holds waiting out unbegun left l →
+    Holds (waiting ++ tickets_of cs) (out ++ concat (texts_of cs)) (unbegun ++ map length (texts_of cs)) left (with_commands cs l)
+pushed-all [] waiting out unbegun left l h =
+    holds-to waiting (waiting ++ []) out (out ++ []) unbegun (unbegun ++ []) left l (with_commands [] l) (sym (append-nil waiting)) (sym (append-nil out))
+    (sym (append-nil unbegun)) (ap (λ cs. record { commands = cs; replied = l.replied; sent = l.sent }) (sym (append-nil l.commands))) h
+pushed-all (c ∷ cs) waiting out unbegun left l h =
+    let rest = pushed-all cs (waiting ++ c.ticket ∷ []) (out ++ c.text) (unbegun ++ length c.text ∷ []) left (with_queued c.ticket c.text l)
+    (pushed waiting out unbegun left l c.ticket c.text h) in
+    holds-to ((waiting ++ c.ticket ∷ []) ++ tickets_of cs) (waiting ++ tickets_of (c ∷ cs)) ((out ++ c.text) ++ concat (texts_of cs)) (out ++ concat (texts_of (c ∷ cs)))
+    ((unbegun ++ length c.text ∷ []) ++ map length (texts_of cs)) (unbegun ++ map length (texts_of (c ∷ cs))) left (with_commands cs (with_queued c.ticket c.text l))
+    (with_commands (c ∷ cs) l) (append_assoc waiting (c.ticket ∷ []) (tickets_of cs)) (append_assoc out c.text (concat (texts_of cs)))
+    (append_assoc unbegun (length c.text ∷ []) (map length (texts_of cs)))
+    (ap (λ ds. record { commands = ds; replied = l.replied; sent = l.sent }) (append_assoc l.commands (c ∷ []) cs)) rest
+
+-- the commands of a line of which no byte was sent are queued on another
+pub released : (waiting waiting' : List Ticket) (out out' unbegun unbegun' : List ℕ) (left left' : ℕ) (from to : Line) → length waiting ≤ length unbegun →
+    Holds waiting out unbegun left from → Holds waiting' out' unbegun' left' to →
+    Holds (waiting' ++ waiting) (out' ++ drop left out) (unbegun' ++ unbegun) left' (with_commands (waiting_commands from) to)
+released waiting waiting' out out' unbegun unbegun' left left' from to none h k =
+    let m = connected waiting out (drop left out) unbegun left from none refl h in
+    let cs = waiting_commands from in
+    let none-begun : 0 + m.begins.begun ≡ 0 = let c = m.begins.count in omega (arith, c, none) in
+    let lengths : map length (texts_of cs) ≡ unbegun = ap (λ n. map length (drop n (texts_of cs))) (sym none-begun) ∙ m.begins.lengths in
+    holds-to (waiting' ++ tickets_of cs) (waiting' ++ waiting) (out' ++ concat (texts_of cs)) (out' ++ drop left out) (unbegun' ++ map length (texts_of cs))
+    (unbegun' ++ unbegun) left' (with_commands cs to) (with_commands cs to) (ap (λ ts. waiting' ++ ts) m.waits) (ap (λ bytes. out' ++ bytes) (sym m.in_order))
+    (ap (λ ns. unbegun' ++ ns) lengths) refl (pushed-all cs waiting' out' unbegun' left' to k)
+
+pub released_as : (waiting waiting' waiting'' : List Ticket) (out out' out'' unbegun unbegun' unbegun'' : List ℕ) (left left' : ℕ) (from to : Line) →
+    length waiting ≤ length unbegun → waiting'' ≡ waiting' ++ waiting → out'' ≡ out' ++ drop left out → unbegun'' ≡ unbegun' ++ unbegun →
+    Holds waiting out unbegun left from → Holds waiting' out' unbegun' left' to → Holds waiting'' out'' unbegun'' left' (with_commands (waiting_commands from) to)
+released_as waiting waiting' waiting'' out out' out'' unbegun unbegun' unbegun'' left left' from to none e f g h k =
+    holds-to (waiting' ++ waiting) waiting'' (out' ++ drop left out) out'' (unbegun' ++ unbegun) unbegun'' left' (with_commands (waiting_commands from) to)
+    (with_commands (waiting_commands from) to) (sym e) (sym f) (sym g) refl (released waiting waiting' out out' unbegun unbegun' left left' from to none h k)
+
+pub holds_nothing : (waiting : List Ticket) (out unbegun : List ℕ) (left : ℕ) → waiting ≡ [] → out ≡ [] → unbegun ≡ [] → left ≡ 0 →
+    Holds waiting out unbegun left nothing_queued
+holds_nothing waiting out unbegun left e f g s =
+    subst (λ n. Holds waiting out unbegun n nothing_queued) (sym s)
+    (holds-to [] waiting [] out [] unbegun 0 nothing_queued nothing_queued (sym e) (sym f) (sym g) refl
+    (record { within = omega arith; waits = refl; in_order = refl; begins = begins_nothing }))
+
+take-whole : (xs : List ℕ) → take (length xs) xs ≡ xs
+take-whole [] = refl
+take-whole (x ∷ xs) = ap (λ ys. x ∷ ys) (take-whole xs)
+
+pub take-rest : (n : ℕ) (xs : List ℕ) → take (length xs - n) (drop n xs) ≡ drop n xs
+take-rest n xs = ap (λ k. take k (drop n xs)) (sym (length-drop n xs)) ∙ take-whole (drop n xs)

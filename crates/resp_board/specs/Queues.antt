@@ -35,6 +35,14 @@ with_queued ticket text l = record {
   sent = l.sent;
 }
 
+-- more commands were queued
+abbrev pub with_commands : List Command → Line → Line
+with_commands more l = record { commands = l.commands ++ more; replied = l.replied; sent = l.sent }
+
+-- the commands that wait for replies
+abbrev pub waiting_commands : Line → List Command
+waiting_commands l = drop l.replied l.commands
+
 -- the server replied to one more command
 abbrev pub with_answered : Line → Line
 with_answered l = record { commands = l.commands; replied = l.replied + 1; sent = l.sent }

@@ -1,5 +1,5 @@
 -- The clients and lines of a board, and what it has run.
-use Rattle.std.specs.Prelude.{◌≡◌, ◌≢◌, ℕ, ◌+◌, ◌<◌, ◌≤◌, Bool, false, true, List, [], count_by, length, map, Option, None, Some, IsSomeAnd, is_some, slice_get, if◌then◌else◌}
+use Rattle.std.specs.Prelude.{◌≡◌, ◌≢◌, ◌⊎◌, ℕ, ◌+◌, ◌<◌, ◌≤◌, Bool, false, true, List, [], count_by, length, map, Option, None, Some, IsSomeAnd, is_some, slice_get, if◌then◌else◌}
 use Rattle.std.specs.Option.{option_map}
 use Rattle.resp_board.specs.declared.board.Board.{Board}
 use Rattle.resp_board.specs.declared.bounds.Bounds.{Bounds}
@@ -103,6 +103,14 @@ LineOverflows m line more = (0 < length (unsent_on m line)) × (m.bounds.unsent 
 -- one more command of the client may wait, but with this text too many bytes would wait to be sent over the line
 abbrev pub LineIsFull : Board → ClientId → ℕ → List ℕ → Type 0
 LineIsFull m who line text = HasCommandLeft m who × LineOverflows m line (length text)
+
+-- one of the lines is not there, or they are the same
+abbrev pub LacksLines : Board → ℕ → ℕ → Type 0
+LacksLines m from to = (from ≡ to) ⊎ ((has_line m from ≡ false) ⊎ (has_line m to ≡ false))
+
+-- both lines are there and are not the same, and a byte was sent of a command that waits on the first
+abbrev pub HasBegun : Board → ℕ → ℕ → Type 0
+HasBegun m from to = (LacksLines m from to → ⊥) × (0 < begun_on m from)
 
 -- a client has this id or had it
 abbrev pub IsKnown : Board → ClientId → Type 0

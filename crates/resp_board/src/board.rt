@@ -3,7 +3,7 @@
 ghost use Rattle.std.specs.Prelude.{ℕ, ◌≡◌, ◌↔◌, ◌⊎◌, ◌++◌, ◌+◌, ◌<◌, ◌≤◌, ◌∷◌, [], None, false, true, length, take, IfOk, IfSome, IsErrOf, OnErr, OnOk, slice_get};
 ghost use Rattle.std.specs.List.{concat};
 ghost use Rattle.std.specs.Option.{option_map};
-ghost use Rattle.resp_board.specs.Boards.{Ask, Fail, Lose, Own, Reply};
+ghost use Rattle.resp_board.specs.Boards.{Ask, Fail, Lose, Own, Release, Reply};
 ghost use Rattle.resp_board.specs.Histories.{board_of, due_on, nothing_happened, texts_on, with_bytes, with_given};
 ghost use Rattle.resp_board.specs.Answers.{front_answers};
 ghost use Rattle.resp_board.specs.Joins.{StandsSomehow};
@@ -11,7 +11,7 @@ ghost use Rattle.resp_board.specs.Tickets.{answers_for};
 
 use crate::bounds::Bounds;
 use crate::desk::DeskError;
-use crate::error::{AskError, OpenError, OwnError, ReplyError};
+use crate::error::{AskError, OpenError, OwnError, ReleaseError, ReplyError};
 use crate::queue::Queue;
 use crate::seat::Seat;
 use crate::ticket::{ClientId, LineId, Ticket};
@@ -42,7 +42,7 @@ pub struct Board {
 }
 
 impl Board {
-    ghost use Rattle.resp_board.specs.Runs.{ClientIsFull, HasAnsweredSome, HasClosed, HasFailedSome, HasLostSome, HasNoCommandLeft, HasNoIdLeft, HasOneFewerBegun, HasOpened, HasOpenedLine, HasRun, HasRunSome, KeepsOpen, KeepsOthers, KeepsRun, LacksLine, LineIsFull, LineOverflows, Runs, WhereRun, begun_on, bounds_of, clients_on, has_line, open_count, unsent_on, waiting_count, waiting_for, waiting_on};
+    ghost use Rattle.resp_board.specs.Runs.{ClientIsFull, HasAnsweredSome, HasBegun, HasClosed, HasFailedSome, HasLostSome, HasNoCommandLeft, HasNoIdLeft, HasOneFewerBegun, HasOpened, HasOpenedLine, HasRun, HasRunSome, KeepsOpen, KeepsOthers, KeepsRun, LacksLine, LacksLines, LineIsFull, LineOverflows, Runs, WhereRun, begun_on, bounds_of, clients_on, has_line, open_count, unsent_on, waiting_count, waiting_for, waiting_on};
 
     /// Returns a board without clients and lines. Does not allocate.
     pub fn new(alloc: Global, bounds: Bounds) -> Board
@@ -294,6 +294,37 @@ impl Board {
             clients::answer(&mut self.clients, ticket, text)?;
             rows::remove_first(&mut self.lines, line.place);
         }
+        Ok(())
+    }
+
+    /// Moves the commands that wait on a line without a connection to the end of another line, in
+    /// order. No byte of them was sent. [`Board::to_server`] returns them for the other line, whole.
+    /// They may be more than [`Bounds::unsent`] allows.
+    ///
+    /// # Errors
+    ///
+    /// `NoLine` if one of the lines does not exist, or they are the same; otherwise `Begun` if a byte
+    /// of a command that waits on the first line was sent; otherwise `OutOfMemory` if an allocation
+    /// fails. Nothing changes.
+    pub fn release(&mut self, from: LineId, to: LineId) -> Result<(), ReleaseError>
+        ensures run { OnOk result (Runs (Release from.place to.place) self.old self.new) }
+        ensures no_line { IsErrOf result ReleaseError.NoLine ↔
+            LacksLines self.old from.place to.place }
+        ensures begun { IsErrOf result ReleaseError.Begun ↔
+            HasBegun self.old from.place to.place }
+        ensures same_open { KeepsOpen self.old self.new }
+        ensures unchanged { OnErr result (KeepsRun self.old self.new) }
+    {
+        let count = self.lines.len();
+        if from.place == to.place || from.place >= count || to.place >= count {
+            return Err(ReleaseError::NoLine);
+        }
+        if self.begun(from) > 0 {
+            return Err(ReleaseError::Begun);
+        }
+        let Ok(()) = rows::release(self.alloc, &mut self.lines, from.place, to.place) else {
+            return Err(ReleaseError::OutOfMemory);
+        };
         Ok(())
     }
 

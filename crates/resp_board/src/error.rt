@@ -64,3 +64,17 @@ pub enum ReplyError {
     #[error("out of memory")]
     OutOfMemory,
 }
+
+/// The error of [`Board::release`](crate::Board::release): no command is moved.
+#[derive(Clone, Copy, Debug, PartialEq, Eq, Error)]
+pub enum ReleaseError {
+    /// One of the lines does not exist, or they are the same.
+    #[error("there are no two such lines")]
+    NoLine,
+    /// A byte was sent of a command that waits on the first line.
+    #[error("a byte was sent of a command that waits")]
+    Begun,
+    /// An allocation failed.
+    #[error("out of memory")]
+    OutOfMemory,
+}

@@ -23,6 +23,6 @@ mod ticket;
 pub use board::Board;
 pub use bounds::Bounds;
 pub use desk::{Desk, DeskError, TooMany};
-pub use error::{AskError, OpenError, OwnError, ReplyError};
+pub use error::{AskError, OpenError, OwnError, ReleaseError, ReplyError};
 pub use queue::Queue;
 pub use ticket::{ClientId, LineId, Ticket};

@@ -28,7 +28,7 @@ pub struct Queue {
 }
 
 impl Queue {
-    ghost use Rattle.resp_board.specs.Queues.{HasQueued, KeepsQueued, WhereQueued, begun_count, nothing_queued, texts_of, unsent_of, waiting_tickets, with_answered, with_connection, with_queued, with_sent, without_first};
+    ghost use Rattle.resp_board.specs.Queues.{HasQueued, KeepsQueued, WhereQueued, begun_count, nothing_queued, texts_of, unsent_of, waiting_commands, waiting_tickets, with_answered, with_commands, with_connection, with_queued, with_sent, without_first};
 
     /// Returns a line without commands. Does not allocate.
     pub fn new(alloc: Global) -> Queue
@@ -162,5 +162,29 @@ impl Queue {
         self.out.advance(length);
         self.left = 0;
         Some(ticket)
+    }
+
+    /// Moves the commands that wait to the end of another line, in order. No byte of them was sent.
+    /// Begins anew over a new connection, without commands.
+    ///
+    /// # Errors
+    ///
+    /// `AllocError` if an allocation fails. Nothing changes.
+    pub fn release(&mut self, to: &mut Queue) -> Result<(), AllocError>
+        requires { begun_count self.old ≡ 0 }
+        ensures moved { OnOk result (WhereQueued self.old (λ from. WhereQueued to.old (λ line.
+            HasQueued to.new (with_commands (waiting_commands from) line)))) }
+        ensures emptied { OnOk result (HasQueued self.new nothing_queued) }
+        ensures unchanged { OnErr result (KeepsQueued self.old self.new) }
+        ensures unchanged_to { OnErr result (KeepsQueued to.old to.new) }
+    {
+        to.waiting.reserve(self.waiting.len())?;
+        to.unbegun.reserve(self.unbegun.len())?;
+        to.out.extend_from_slice(&self.out.as_slice()[self.left..])?;
+        to.waiting.append(&mut self.waiting)?;
+        to.unbegun.append(&mut self.unbegun)?;
+        self.out.clear();
+        self.left = 0;
+        Ok(())
     }
 }

@@ -1,12 +1,13 @@
 //! The lines of a board.
 
-ghost use Rattle.std.specs.Prelude.{◌≡◌, ◌↔◌, ◌++◌, ◌∷◌, ◌+◌, ◌<◌, ◌≤◌, [], drop, length, take, IfOk, IfSome, IsNone, OnErr, OnOk, slice_get};
+ghost use Rattle.std.specs.Prelude.{◌≡◌, ◌≢◌, is_some, true, ◌↔◌, ◌++◌, ◌∷◌, ◌+◌, ◌<◌, ◌≤◌, [], drop, length, take, IfOk, IfSome, IsNone, OnErr, OnOk, slice_get};
 ghost use Rattle.resp_board.specs.Queues.{with_answered, with_connection, with_queued, with_sent, without_first};
-ghost use Rattle.resp_board.specs.Rows.{ChangesLine, begun_in, tickets_in, unsent_in};
+ghost use Rattle.resp_board.specs.Rows.{ChangesLine, KeepsLines, ReleasesLine, begun_in, tickets_in, unsent_in};
 
 use crate::queue::Queue;
 use crate::ticket::Ticket;
-use std::alloc::AllocError;
+use std::alloc::{AllocError, Global};
+use std::mem;
 
 /// Returns the ticket of the first command that waits on a line, if a byte of it was sent.
 pub(crate) fn first_begun(lines: &Vec<Queue>, line: usize) -> Option<Ticket>
@@ -115,4 +116,33 @@ pub(crate) fn remove_first(lines: &mut Vec<Queue>, line: usize)
     if let Some(queue) = lines.get_mut(line) {
         let _removed = queue.remove_first();
     }
+}
+
+/// Moves the commands that wait on a line to the end of another line, in order. No byte of them was
+/// sent.
+pub(crate) fn release(
+    alloc: Global,
+    lines: &mut Vec<Queue>,
+    from: usize,
+    to: usize,
+) -> Result<(), AllocError>
+    requires unbegun { begun_in (slice_get lines.old.items from) ≡ 0 }
+    requires apart { from ≢ to }
+    requires from_there { is_some (slice_get lines.old.items from) ≡ true }
+    requires to_there { is_some (slice_get lines.old.items to) ≡ true }
+    ensures released { OnOk result (ReleasesLine lines.old.items lines.new.items from to) }
+    ensures unchanged { OnErr result (KeepsLines lines.old.items lines.new.items) }
+{
+    let Some(queue) = lines.get_mut(from) else {
+        return Ok(());
+    };
+    let mut moved = mem::replace(queue, Queue::new(alloc));
+    let Some(other) = lines.get_mut(to) else {
+        return Ok(());
+    };
+    let released = moved.release(other);
+    if let Some(queue) = lines.get_mut(from) {
+        *queue = moved;
+    }
+    released
 }

@@ -70,6 +70,41 @@ pub(crate) fn of_queue(alloc: Global) -> Outcome {
     Outcome::of(begun == 2 && queue.begun() == 0 && queue.unsent().len() == 56)
 }
 
+/// The commands of a line are moved behind those of another, one byte of which was sent.
+pub(crate) fn of_queue_release(alloc: Global) -> Outcome {
+    let mut from = Queue::new(alloc);
+    let mut to = Queue::new(alloc);
+    let client = ClientId {
+        place: 0,
+        number: 1,
+    };
+    for number in 0..3 {
+        let ticket = Ticket {
+            client,
+            number,
+            part: 0,
+        };
+        if from.push(ticket, b"later;").is_err() || to.push(ticket, b"first;").is_err() {
+            return Outcome::refused(true);
+        }
+    }
+    to.sent(1);
+    if from.release(&mut to).is_err() {
+        let stands = from.unsent() == b"later;later;later;".as_slice()
+            && from.waiting() == 3
+            && to.unsent() == b"irst;first;first;".as_slice()
+            && to.waiting() == 3;
+        return Outcome::refused(stands && from.release(&mut to).is_ok());
+    }
+    Outcome::of(
+        to.unsent() == b"irst;first;first;later;later;later;".as_slice()
+            && to.waiting() == 6
+            && to.begun() == 1
+            && from.unsent().is_empty()
+            && from.waiting() == 0,
+    )
+}
+
 /// A board with a client and a line, and the ids of both.
 fn joined(alloc: Global) -> Option<(Board, ClientId, LineId)> {
     let mut board = Board::new(alloc, Bounds::standard());
@@ -147,4 +182,33 @@ pub(crate) fn of_board_lose(alloc: Global) -> Outcome {
         return Outcome::refused(left && board.fail(line, b"failed;").is_ok());
     }
     Outcome::of(left && board.to_client(who) == Some(b"lost;lost;failed;".as_slice()))
+}
+
+/// The commands of a line are moved behind those of another.
+pub(crate) fn of_board_release(alloc: Global) -> Outcome {
+    let Some((mut board, who, line)) = joined(alloc) else {
+        return Outcome::refused(true);
+    };
+    let Ok(other) = board.open_line() else {
+        return Outcome::refused(true);
+    };
+    for (place, text) in [(line, b"first;"), (other, b"third;"), (other, b"last!;")] {
+        if board.ask(who, place, text).is_err() {
+            return Outcome::refused(true);
+        }
+    }
+    board.sent(line, 2);
+    if board.release(other, line).is_err() {
+        let stands = board.to_server(line) == b"rst;".as_slice()
+            && board.to_server(other) == b"third;last!;".as_slice()
+            && board.waiting(other) == 2;
+        return Outcome::refused(stands && board.release(other, line).is_ok());
+    }
+    Outcome::of(
+        board.to_server(line) == b"rst;third;last!;".as_slice()
+            && board.begun(line) == 1
+            && board.waiting(line) == 3
+            && board.waiting(other) == 0
+            && board.to_server(other).is_empty(),
+    )
 }

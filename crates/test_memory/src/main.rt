@@ -103,7 +103,7 @@ fn parts_of_values(alloc: Global) -> [Part; 27] {
 }
 
 /// Runs the parts of the programs that serve or forward, and returns their outcomes in order.
-fn parts_of_connections(alloc: Global) -> [Part; 42] {
+fn parts_of_connections(alloc: Global) -> [Part; 44] {
     [
         ("databases new", hosting::of_new(alloc)),
         ("databases lines", hosting::of_lines(alloc)),
@@ -117,10 +117,12 @@ fn parts_of_connections(alloc: Global) -> [Part; 42] {
         ("desk", board::of_desk(alloc)),
         ("own answer at a desk", board::of_own_desk(alloc)),
         ("queue of a line", board::of_queue(alloc)),
+        ("queue release", board::of_queue_release(alloc)),
         ("board open", board::of_board_open(alloc)),
         ("board ask", board::of_board_ask(alloc)),
         ("board reply", board::of_board_reply(alloc)),
         ("board lose", board::of_board_lose(alloc)),
+        ("board release", board::of_board_release(alloc)),
         ("mux open", multiplexing::of_open(alloc)),
         ("mux forward", multiplexing::of_forward(alloc)),
         ("mux own", multiplexing::of_own(alloc)),

@@ -2,7 +2,7 @@
 
 use crate::draw::Draw;
 use crate::replay::Expected;
-use resp_board::{AskError, Board, Bounds, ClientId, LineId, OwnError};
+use resp_board::{AskError, Board, Bounds, ClientId, LineId, OwnError, ReleaseError};
 use std::alloc::{AllocError, Global};
 
 /// The number of clients that are open at a time, and of lines.
@@ -61,6 +61,8 @@ pub(crate) struct Counts {
     pub(crate) client_full: u64,
     /// Commands that were refused because too many bytes waited on their line.
     pub(crate) line_full: u64,
+    /// Commands that were moved to another line.
+    pub(crate) released: u64,
 }
 
 impl Counts {
@@ -70,12 +72,13 @@ impl Counts {
             lost: 0,
             client_full: 0,
             line_full: 0,
+            released: 0,
         }
     }
 
     /// Returns whether each kind of event happened often.
     pub(crate) fn all_happened(&self) -> bool {
-        self.lost > 5 && self.client_full > 5 && self.line_full > 5
+        self.lost > 5 && self.client_full > 5 && self.line_full > 5 && self.released > 5
     }
 }
 
@@ -86,7 +89,7 @@ pub(crate) fn run(alloc: Global, seed: u64, events: u64) -> Result<Counts, Alloc
     for event in 0..events {
         let seat = draw.below(CLIENTS as u64) as usize;
         let row = draw.below(LINES as u64) as usize;
-        match draw.below(32) {
+        match draw.below(34) {
             0..10 => world.ask(seat, row)?,
             10..12 => world.own(seat, event)?,
             12..18 => world.send(row, draw.below(10) as usize),
@@ -97,10 +100,16 @@ pub(crate) fn run(alloc: Global, seed: u64, events: u64) -> Result<Counts, Alloc
                 world.lose(row)?;
                 world.counts.lost += 1;
             }
-            _ => {
+            31 => {
                 if event % 4 == 0 {
                     world.fail(row)?;
                 }
+            }
+            _ => {
+                if event % 2 == 0 {
+                    world.lose(row)?;
+                }
+                world.release(row, draw.below(LINES as u64) as usize)?;
             }
         }
         world.compare(seat, row)?;
@@ -273,6 +282,34 @@ impl World {
         let waiting = self.rows[row].commands.len() - self.rows[row].replied;
         self.board.fail(self.rows[row].id, b"-failed\n")?;
         self.begin_anew(row, waiting, b"-failed\n")
+    }
+
+    /// The commands that wait on a line are moved to another line.
+    fn release(&mut self, row: usize, other: usize) -> Result<(), AllocError> {
+        let verdict = if row == other {
+            Err(ReleaseError::NoLine)
+        } else if self.begun(row) > 0 {
+            Err(ReleaseError::Begun)
+        } else {
+            Ok(())
+        };
+        let released = self.board.release(self.rows[row].id, self.rows[other].id);
+        self.counts.wrong += u64::from(released != verdict);
+        if released.is_err() {
+            return Ok(());
+        }
+        for place in self.rows[row].replied..self.rows[row].commands.len() {
+            let command = self.rows[row].commands[place];
+            self.rows[other]
+                .commands
+                .push(command)
+                .map_err(|_| AllocError)?;
+            self.counts.released += 1;
+        }
+        self.rows[row].commands = Vec::new(self.alloc);
+        self.rows[row].replied = 0;
+        self.rows[row].sent = 0;
+        Ok(())
     }
 
     /// The first commands that wait have this answer, and the others are for a new connection.
