@@ -9,7 +9,7 @@ use Rattle.resp_session.specs.Answers.{Answers, BeginsNoValue, server_rules}
 use Rattle.resp_session.specs.AnswerLaws.{AnswersGoOn, AnswersEnd}
 use Rattle.resp_session.specs.Stores.{Store}
 use Rattle.resp_server.specs.Answering.{AnswersBytes, IsAnswered, IsCutShort, state_with}
-use Rattle.resp_server.specs.Running.{IsAsBefore}
+use Rattle.resp_server.specs.Running.{IsSessionAsBefore}
 use Rattle.resp_server.specs.Reading.{HasReadFront}
 use Rattle.resp_server.specs.declared.session.Session.{Session}
 use Rattle.resp_server.proofs.Turns.{waits_on}
@@ -78,7 +78,7 @@ closed_answered ends {limits} {store} {store'} {before} {after} {k} front piece 
 
 -- when out of memory, what was answered before stands
 pub cut_short : {limits : Bounds} {store store' store'' : Store} {before middle after last : Session} {front piece : List ℕ} {k : ℕ} (n : ℕ) →
-    middle.closing ≡ false → IsAnswered limits store store' before middle (front ++ take n piece) k → IsAsBefore store' store'' middle after →
+    middle.closing ≡ false → IsAnswered limits store store' before middle (front ++ take n piece) k → IsSessionAsBefore store' store'' middle after →
     last.version ≡ after.version → last.out.items ≡ after.out.items → last.closing ≡ true → n < length piece →
     IsCutShort limits store store'' before last front piece k
 cut_short {limits} {store} {store'} {before} {middle} {last} {front} {piece} {k} n is_open a same version out closes left =

@@ -12,3 +12,7 @@ pub mod WholeTurns
 pub mod AnsweredPieces
 pub mod AnsweredHubs
 pub mod Sending
+pub mod Lists
+pub mod Doings
+pub mod Runs
+pub mod Takings

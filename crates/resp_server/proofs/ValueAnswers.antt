@@ -11,7 +11,7 @@ use Rattle.resp_session.specs.Operations.{operation_of}
 use Rattle.resp_session.specs.Stores.{Store, Effect, effect_of}
 use Rattle.resp_server.specs.Answering.{IsAnswerTo, state_with}
 use Rattle.resp_server.specs.ReplyTexts.{fault_text}
-use Rattle.resp_server.specs.Running.{HasEffect, HasSameRest}
+use Rattle.resp_server.specs.Running.{HasEffect}
 use Rattle.resp_server.specs.declared.session.Session.{Session}
 
 -- a text is longer by at most as many bytes as are appended
@@ -43,15 +43,15 @@ command_state {store'} effect before after text count store version closing =
 
 -- a command that had its effect
 pub command_answer : {x : Datum} {store store' : Store} {before after : Session} (name : List ℕ) (arguments : List (List ℕ)) →
-    Call name arguments ≡ meaning_of x → before.closing ≡ false → HasEffect store' before after
-    (effect_of store before.version before.id (operation_of name arguments)) → HasSameRest before after → IsAnswerTo x store store' before after 1
-command_answer {store} {before} {after} name arguments h is_open effect rest =
+    Call name arguments ≡ meaning_of x → before.closing ≡ false → HasEffect store' after.version before.out.items after.out.items
+    (effect_of store before.version before.id (operation_of name arguments)) → after.closing ≡ before.closing → IsAnswerTo x store store' before after 1
+command_answer {store} {before} {after} name arguments h is_open effect same =
     let did : Effect = effect_of store before.version before.id (operation_of name arguments) in
     record {
       reply = canonical_text did.version did.reply;
       replied = effect.replied;
       state = λ text count. ap (after_meaning before.id (state_with store before.version text false count)) (sym h) ∙
-          command_state did before after text count effect.store_of effect.version (rest.same_closing ∙ is_open);
+          command_state did before after text count effect.store_of effect.version_of (same ∙ is_open);
     }
 
 -- what is no command closes the session

@@ -11,7 +11,7 @@ use Rattle.resp_session.specs.Operations.{operation_of}
 use Rattle.resp_session.specs.Stores.{Store, effect_of}
 use Rattle.resp_server.specs.Answering.{AnswersBytes}
 use Rattle.resp_server.specs.Reading.{HasReadFront}
-use Rattle.resp_server.specs.Running.{HasEffect, HasSameRest}
+use Rattle.resp_server.specs.Running.{HasEffect}
 use Rattle.resp_server.specs.declared.session.Session.{Session}
 use Rattle.resp_server.proofs.Turns.{none_taken, spelled_turn}
 use Rattle.resp_server.proofs.ValueAnswers.{command_answer}
@@ -28,12 +28,12 @@ used_is {piece} {written} rest whole =
 
 pub whole_turn : NoSpellingIsEmpty → TheEmptyTextIsViable → ACommandIsItsWords → {limits : Bounds} → AreBounds limits → {store store' : Store}
     {before after : Session} {piece rest : List ℕ} (name : List ℕ) (arguments : List (List ℕ)) → HasReadFront before.decoder [] → before.closing ≡ false →
-    BeginsWith limits piece (command_of (name ∷ arguments)) rest → HasEffect store' before after (effect_of store before.version before.id
-    (operation_of name arguments)) → HasSameRest before after → AnswersBytes limits store store' before after [] piece (length piece - length rest) 1
-whole_turn full empty words_law {limits} bounds {before} {rest} name arguments between is_open begins effect same =
+    BeginsWith limits piece (command_of (name ∷ arguments)) rest → HasEffect store' after.version before.out.items after.out.items
+    (effect_of store before.version before.id (operation_of name arguments)) → after.decoder ≡ before.decoder → after.closing ≡ before.closing → AnswersBytes limits store store' before after [] piece (length piece - length rest) 1
+whole_turn full empty words_law {limits} bounds {before} {rest} name arguments between is_open begins effect same_decoder same_closing =
     let x = command_of (name ∷ arguments) in
     let (bytes, within) = used_is rest begins.whole in
     spelled_turn full empty bounds (none_taken full (server_rules limits) before.decoder [] between)
     (subst (IsSpelling (server_rules limits) x) (sym bytes) begins.spelled) within
-    (subst (λ d. HasReadFront d []) (sym same.same_decoder) between)
-    (command_answer name arguments (sym ((words_law x name arguments).1 refl)) is_open effect same)
+    (subst (λ d. HasReadFront d []) (sym same_decoder) between)
+    (command_answer name arguments (sym ((words_law x name arguments).1 refl)) is_open effect same_closing)

@@ -13,7 +13,7 @@ use Rattle.resp_session.specs.Replies.{error}
 use Rattle.resp_session.specs.Stores.{Store}
 use Rattle.resp_server.specs.Reading.{HasReadFront, ReadsBy, WhereFrontRead}
 use Rattle.resp_server.specs.ReplyTexts.{fault_text}
-use Rattle.resp_server.specs.Running.{IsAsBefore, KeepsWithin}
+use Rattle.resp_server.specs.Running.{IsSessionAsBefore, KeepsWithin}
 use Rattle.resp_server.specs.declared.session.Session.{Session}
 use Rattle.resp_server.specs.declared.turn.Turn.{Turn}
 
@@ -55,8 +55,8 @@ pub record TakesTurn {E : Type 0} (limits limits' : Bounds) (store store' : Stor
     (piece : List ℕ) (result : Result Turn E) : Type 0 where
   pub answered : WhereFrontRead before.decoder (λ front. IfOk result (λ turn.
       AnswersBytes limits store store' before after front piece turn.used turn.commands))
-  pub unchanged : OnErr result (IsAsBefore store store' before after)
-  pub within : KeepsWithin limits limits' store' before after
+  pub unchanged : OnErr result (IsSessionAsBefore store store' before after)
+  pub within : KeepsWithin limits limits' store' before.out.items after.out.items
   pub same_id : after.id ≡ before.id
   pub reading : ReadsBy (server_rules limits) after.decoder
   pub at_most_one : IfOk result (λ turn. turn.commands ≤ 1)

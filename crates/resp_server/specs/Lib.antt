@@ -1,5 +1,6 @@
 pub mod Entries
 pub mod Words
+pub mod Refusals
 pub mod Operations
 pub mod ReplyTexts
 pub mod Running
@@ -9,3 +10,12 @@ pub mod PushRefusals
 pub mod Answering
 pub mod Handling
 pub mod Sending
+pub mod Names
+pub mod Indexes
+pub mod Deeds
+pub mod Outcomes
+pub mod Servers
+pub mod Doing
+pub mod Parts
+pub mod Rejections
+pub mod Taking

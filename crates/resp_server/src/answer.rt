@@ -6,9 +6,9 @@ ghost use Rattle.resp_session.specs.Fitting.{FitsStore};
 ghost use Rattle.resp_server.specs.Answering.{IsAnswered, IsCutShort, IsReading, TakesWithin};
 ghost use Rattle.resp_server.specs.Reading.{ReadsBy, WhereFrontRead};
 
+use crate::database::Database;
 use crate::hub::Taken;
 use crate::session::Session;
-use crate::shared::Shared;
 use crate::turn::take_turn;
 use resp_session::laws;
 use std::hash::BuildHasher;
@@ -17,35 +17,35 @@ use std::hash::BuildHasher;
 /// wait. The rest of the piece is not used. When out of memory, the session is closing, and the
 /// error has the number of commands run before.
 pub(crate) fn answer<S: BuildHasher>(
-    shared: &mut Shared<S>,
+    database: &mut Database<S>,
     session: &mut Session,
     piece: &[u8],
     held: usize,
 ) -> Result<Taken, u64>
-    requires { IsReading shared.old.limits shared.old.store session.old }
+    requires { IsReading database.old.limits database.old.store session.old }
     ensures answered { WhereFrontRead session.old.decoder (λ front. IfOk result (λ taken.
-        IsAnswered shared.old.limits shared.old.store shared.new.store session.old session.new
+        IsAnswered database.old.limits database.old.store database.new.store session.old session.new
         (front ++ take taken.used piece.now) taken.commands)) }
     ensures cut_short { WhereFrontRead session.old.decoder (λ front. IfErr result (IsCutShort
-        shared.old.limits shared.old.store shared.new.store session.old session.new front
+        database.old.limits database.old.store database.new.store session.old session.new front
         piece.now)) }
     ensures within { IfOk result (λ taken. TakesWithin held (length session.old.out.items)
         (length session.new.out.items) session.new.closing (length piece.now) taken.used) }
-    ensures bounded { length session.old.out.items ≤ held + shared.old.limits.total →
-        length session.new.out.items ≤ held + shared.old.limits.total }
-    ensures stored { FitsStore shared.old.limits shared.new.store }
-    ensures same_limits { shared.new.limits ≡ shared.old.limits }
+    ensures bounded { length session.old.out.items ≤ held + database.old.limits.total →
+        length session.new.out.items ≤ held + database.old.limits.total }
+    ensures stored { FitsStore database.old.limits database.new.store }
+    ensures same_limits { database.new.limits ≡ database.old.limits }
     ensures same_id { session.new.id ≡ session.old.id }
-    ensures reading { ReadsBy (server_rules shared.old.limits) session.new.decoder }
+    ensures reading { ReadsBy (server_rules database.old.limits) session.new.decoder }
 {
     laws::answers_go_on();
     laws::answers_end();
     // The contract of the decoder's `taken` states here that the bytes read are viable.
-    let _taken = session.decoder.taken(&shared.limits);
+    let _taken = session.decoder.taken(&database.limits);
     let mut used = 0;
     let mut commands = 0;
     while used < piece.len() && session.out.len() <= held {
-        let turn = match take_turn(shared, session, &piece[used..]) {
+        let turn = match take_turn(database, session, &piece[used..]) {
             Ok(turn) => turn,
             Err(_) => {
                 session.closing = true;

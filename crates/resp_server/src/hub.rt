@@ -17,12 +17,11 @@ ghost use Rattle.resp_server.specs.declared.error.HubError.{HubError};
 ghost use Rattle.resp_server.specs.declared.error.OpenError.{OpenError};
 
 use crate::answer::answer;
+use crate::database::Database;
 use crate::entries::Entries;
 use crate::error::{HubError, NoSession, OpenError, PushError};
 use crate::push::queue_push;
 use crate::session::Session;
-use crate::shared::Shared;
-use crate::store::Store;
 use resp_io::device::Sink;
 use resp_io::{Halt, write_text};
 use resp_value::limits::Limits;
@@ -79,7 +78,7 @@ pub struct Sent {
 /// This prints `1 +OK\r\n`.
 #[derive(Drop)]
 pub struct Hub<S: BuildHasher> {
-    shared: Shared<S>,
+    database: Database<S>,
     sessions: BTreeMap<u64, Session>,
     last: u64,
 }
@@ -94,13 +93,13 @@ impl<S: BuildHasher> Model for Hub<S> {
     ghost coded = { Prim.hlevel (codes, value.the_row.coded) };
 
     ghost view = { λ hub. record {
-      limits = hub.shared.limits;
+      limits = hub.database.limits;
       sessions = seats_of hub.sessions.entries;
-      store = hub.shared.store;
+      store = hub.database.store;
       last = hub.last;
     } };
 
-    ghost invariant = { λ hub. HubIsSound hub.shared.limits hub.sessions.entries hub.shared.store
+    ghost invariant = { λ hub. HubIsSound hub.database.limits hub.sessions.entries hub.database.store
         hub.last };
 }
 
@@ -113,13 +112,8 @@ impl<S: BuildHasher> Hub<S> {
     pub fn new(alloc: Global, limits: Limits, hasher: S) -> Hub<S>
         ensures { result ≡ record { limits = limits; sessions = []; store = []; last = 0 } }
     {
-        let shared = Shared {
-            store: Store::new(alloc, hasher),
-            limits,
-            alloc,
-        };
         Hub {
-            shared,
+            database: Database::new(alloc, limits, hasher),
             sessions: BTreeMap::new(alloc),
             last: 0,
         }
@@ -129,10 +123,7 @@ impl<S: BuildHasher> Hub<S> {
     pub fn get(&self, key: &[u8]) -> Option<&[u8]>
         ensures { option_map (λ value. value.now) result ≡ value_at self.now.store key.now }
     {
-        match self.shared.store.get(key) {
-            Some(stored) => Some(stored.bytes()),
-            None => None,
-        }
+        self.database.get(key)
     }
 
     /// Returns the keys of the store with their values, in the order in which the keys were added.
@@ -150,7 +141,7 @@ impl<S: BuildHasher> Hub<S> {
     pub fn entries(&self) -> Entries<'_>
         ensures { result ≡ self.now.store }
     {
-        self.shared.store.entries()
+        self.database.store.entries()
     }
 
     /// Returns the bytes that wait to be written to a session's client.
@@ -247,7 +238,7 @@ impl<S: BuildHasher> Hub<S> {
             return Err(NoSession);
         };
         // The contract of the decoder's `taken` states here that the bytes read are viable.
-        let _taken = session.decoder.taken(&self.shared.limits);
+        let _taken = session.decoder.taken(&self.database.limits);
         Ok(session.closing)
     }
 
@@ -283,7 +274,7 @@ impl<S: BuildHasher> Hub<S> {
             return Err(OpenError::TooManySessions);
         }
         let id = self.last + 1;
-        let session = Session::new(self.shared.alloc, id);
+        let session = Session::new(self.database.alloc, id);
         if let Err(_) = self.sessions.insert(id, session) {
             return Err(OpenError::OutOfMemory);
         }
@@ -412,7 +403,7 @@ impl<S: BuildHasher> Hub<S> {
             let used = piece.len();
             return Ok(Taken { used, commands: 0 });
         }
-        let answered = answer(&mut self.shared, session, piece, held);
+        let answered = answer(&mut self.database, session, piece, held);
         session.shrink();
         let taken = match answered {
             Ok(taken) => taken,
@@ -456,7 +447,7 @@ impl<S: BuildHasher> Hub<S> {
         let Some(session) = self.sessions.get_mut(&id) else {
             return Err(PushError::NoSession);
         };
-        if let Err(error) = queue_push(session, &self.shared.limits, items) {
+        if let Err(error) = queue_push(session, &self.database.limits, items) {
             return Err(error);
         }
         Ok(())

@@ -2,7 +2,7 @@
 
 ghost use Rattle.std.specs.Prelude.{◌≡◌, ◌≤◌, ◌∷◌, List, ℕ, length, []};
 ghost use Rattle.resp_session.specs.Operations as spec;
-ghost use Rattle.resp_server.specs.Operations.{conditional_by, operation_in, operation_by};
+ghost use Rattle.resp_server.specs.Operations.{conditional_by, operation_in};
 ghost use Rattle.resp_server.specs.Words.{words_left};
 
 use crate::refusal::{Refusal, Verb};
@@ -40,41 +40,25 @@ pub(crate) enum Operation<'a> {
     Refused(Refusal),
 }
 
-/// Returns the command of this name, or `None` if the name is unknown.
-pub(crate) fn verb_of(name: &[u8]) -> Option<Verb>
-    ensures { (arguments : List (List ℕ)) →
-        operation_by result arguments ≡ spec.operation_of name.now arguments }
-{
-    if is_name(name, b"ping") {
-        Some(Verb::Ping)
-    } else if is_name(name, b"echo") {
-        Some(Verb::Echo)
-    } else if is_name(name, b"get") {
-        Some(Verb::Get)
-    } else if is_name(name, b"set") {
-        Some(Verb::Set)
-    } else if is_name(name, b"del") {
-        Some(Verb::Del)
-    } else if is_name(name, b"hello") {
-        Some(Verb::Hello)
-    } else {
-        None
-    }
-}
-
 /// Returns the operation that a command of this name asks for, with these words after the name.
 #[inline(always)]
 pub(crate) fn operation_of<'a>(name: &[u8], arguments: Words<'a>) -> Operation<'a>
     ensures { operation_in result ≡ spec.operation_of name.now (words_left arguments.entry) }
 {
-    match verb_of(name) {
-        Some(Verb::Ping) => ping(arguments),
-        Some(Verb::Echo) => echo(arguments),
-        Some(Verb::Get) => get(arguments),
-        Some(Verb::Set) => set(arguments),
-        Some(Verb::Del) => del(arguments),
-        Some(Verb::Hello) => hello(arguments),
-        None => Operation::Refused(Refusal::UnknownCommand),
+    if is_name(name, b"ping") {
+        ping(arguments)
+    } else if is_name(name, b"echo") {
+        echo(arguments)
+    } else if is_name(name, b"get") {
+        get(arguments)
+    } else if is_name(name, b"set") {
+        set(arguments)
+    } else if is_name(name, b"del") {
+        del(arguments)
+    } else if is_name(name, b"hello") {
+        hello(arguments)
+    } else {
+        Operation::Refused(Refusal::UnknownCommand)
     }
 }
 

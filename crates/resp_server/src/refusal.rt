@@ -4,10 +4,10 @@ ghost use Rattle.std.specs.Prelude.{◌≡◌};
 ghost use Rattle.resp_value.specs.Canonical.{canonical_text};
 ghost use Rattle.resp_value.specs.declared.version.Version.TheVariants.{Two};
 ghost use Rattle.resp_session.specs.Replies.{error};
-ghost use Rattle.resp_server.specs.Operations.{refusal_text};
+ghost use Rattle.resp_server.specs.Refusals.{refusal_text};
 ghost use Rattle.resp_server.specs.declared.refusal.Refusal.TheVariants.{WrongNumber};
 
-/// The name of a command that the server knows.
+/// A command or subcommand in the error reply to a wrong number of words.
 #[derive(Clone, Copy, Debug, PartialEq, Eq)]
 pub(crate) enum Verb {
     /// PING.
@@ -22,6 +22,22 @@ pub(crate) enum Verb {
     Del,
     /// HELLO.
     Hello,
+    /// EXISTS.
+    Exists,
+    /// SELECT.
+    Select,
+    /// DBSIZE.
+    DbSize,
+    /// CLIENT.
+    Client,
+    /// CLIENT SETNAME.
+    SetName,
+    /// CLIENT GETNAME.
+    GetName,
+    /// CLIENT ID.
+    Id,
+    /// CLIENT SETINFO.
+    SetInfo,
 }
 
 /// Why a command gets an error.
@@ -35,6 +51,14 @@ pub(crate) enum Refusal {
     NoProtocol,
     /// Its name is unknown.
     UnknownCommand,
+    /// A number is not the decimal text of a 64-bit integer.
+    NoInteger,
+    /// The number of a database is not an integer of 32 bits.
+    FarIndex,
+    /// No database has this number.
+    NoDatabase,
+    /// A name of a client has a byte that is not printable, or a space.
+    BadName,
 }
 
 impl Refusal {
@@ -47,6 +71,12 @@ impl Refusal {
             Refusal::Syntax => b"-ERR syntax error\r\n",
             Refusal::NoProtocol => b"-NOPROTO unsupported protocol version\r\n",
             Refusal::UnknownCommand => b"-ERR unknown command\r\n",
+            Refusal::NoInteger => b"-ERR value is not an integer or out of range\r\n",
+            Refusal::FarIndex =>
+                b"-ERR value is out of range, value must between -2147483648 and 2147483647\r\n",
+            Refusal::NoDatabase => b"-ERR DB index is out of range\r\n",
+            Refusal::BadName =>
+                b"-ERR Client names cannot contain spaces, newlines or special characters.\r\n",
         }
     }
 }
@@ -62,5 +92,13 @@ fn wrong_number(verb: Verb) -> &'static [u8]
         Verb::Set => b"-ERR wrong number of arguments for 'set' command\r\n",
         Verb::Del => b"-ERR wrong number of arguments for 'del' command\r\n",
         Verb::Hello => b"-ERR wrong number of arguments for 'hello' command\r\n",
+        Verb::Exists => b"-ERR wrong number of arguments for 'exists' command\r\n",
+        Verb::Select => b"-ERR wrong number of arguments for 'select' command\r\n",
+        Verb::DbSize => b"-ERR wrong number of arguments for 'dbsize' command\r\n",
+        Verb::Client => b"-ERR wrong number of arguments for 'client' command\r\n",
+        Verb::SetName => b"-ERR wrong number of arguments for 'client|setname' command\r\n",
+        Verb::GetName => b"-ERR wrong number of arguments for 'client|getname' command\r\n",
+        Verb::Id => b"-ERR wrong number of arguments for 'client|id' command\r\n",
+        Verb::SetInfo => b"-ERR wrong number of arguments for 'client|setinfo' command\r\n",
     }
 }

@@ -9,82 +9,79 @@ ghost use Rattle.resp_server.specs.Operations.{operation_in, condition_in};
 ghost use Rattle.resp_server.specs.Running.{Runs};
 ghost use Rattle.resp_server.specs.Words.{words_left};
 
+use crate::database::Database;
 use crate::operation::{Condition, Operation};
 use crate::reply::{NUMBER_ROOM, greeting, reply, reserved_number};
-use crate::session::Session;
-use crate::shared::Shared;
 use crate::store::Store;
 use crate::words::Words;
+use bytes::BytesMut;
 use resp_value::content::Content;
 use resp_value::value::Value;
 use resp_value::version::Version;
 use std::alloc::AllocError;
 use std::hash::BuildHasher;
 
-/// Runs a command in the session of this number, and queues the reply. When out of memory, the
-/// store, the session's version and the waiting bytes are unchanged.
+/// Runs a command of the client of this id and version, and appends the reply to `out`. When out of
+/// memory, the store, the version and the waiting bytes are unchanged.
 #[inline(always)]
 pub(crate) fn run<S: BuildHasher>(
     operation: Operation<'_>,
-    shared: &mut Shared<S>,
-    session: &mut Session,
+    database: &mut Database<S>,
+    id: u64,
+    version: &mut Version,
+    out: &mut BytesMut,
 ) -> Result<(), AllocError>
-    requires fits { FitsEffect shared.old.limits (effect_of shared.old.store session.old.version
-        session.old.id (operation_in operation)) }
-    ensures runs { Runs shared.old.store shared.new.store session.old session.new (effect_of
-        shared.old.store session.old.version session.old.id (operation_in operation.entry)) result }
-    ensures same_limits { shared.new.limits ≡ shared.old.limits }
+    requires fits { FitsEffect database.old.limits (effect_of database.old.store version.old id
+        (operation_in operation)) }
+    ensures runs { Runs database.old.store database.new.store version.old version.new out.old.items
+        out.new.items (effect_of database.old.store version.old id
+        (operation_in operation.entry)) result }
+    ensures same_limits { database.new.limits ≡ database.old.limits }
 {
     match operation {
-        Operation::Ping => session.out.extend_from_slice(b"+PONG\r\n"),
-        Operation::Echo(word) => echo(word, shared, session),
-        Operation::Get(key) => get(key, shared, session),
-        Operation::Set(condition, key, value) => set(condition, key, value, shared, session),
-        Operation::Del(keys) => del(keys, shared, session),
-        Operation::Hello(asked) => hello(asked, shared, session),
-        Operation::Refused(refusal) => session.out.extend_from_slice(refusal.line()),
+        Operation::Ping => out.extend_from_slice(b"+PONG\r\n"),
+        Operation::Echo(word) => echo(word, database, *version, out),
+        Operation::Get(key) => get(key, database, *version, out),
+        Operation::Set(condition, key, value) => set(
+            condition, key, value, database, *version, out,
+        ),
+        Operation::Del(keys) => del(keys, database, *version, out),
+        Operation::Hello(asked) => hello(asked, database, id, version, out),
+        Operation::Refused(refusal) => out.extend_from_slice(refusal.line()),
     }
 }
 
 /// Replies with a word.
 fn echo<S: BuildHasher>(
     word: &[u8],
-    shared: &Shared<S>,
-    session: &mut Session,
+    database: &Database<S>,
+    version: Version,
+    out: &mut BytesMut,
 ) -> Result<(), AllocError>
-    requires { FitsEffect shared.now.limits
-        (effect_of shared.now.store session.old.version 0 (spec.Echo word.now)) }
-    ensures runs { Runs shared.now.store shared.now.store session.old session.new
-        (effect_of shared.now.store session.old.version 0 (spec.Echo word.now)) result }
+    requires { FitsEffect database.now.limits
+        (effect_of database.now.store version 0 (spec.Echo word.now)) }
+    ensures runs { Runs database.now.store database.now.store version version out.old.items
+        out.new.items (effect_of database.now.store version 0 (spec.Echo word.now)) result }
 {
-    let word = Value::Bulk(Content::new(Vec::from_slice(shared.alloc, word)?));
-    reply(&mut session.out, session.version, &shared.limits, &word)
+    let word = Value::Bulk(Content::new(Vec::from_slice(database.alloc, word)?));
+    reply(out, version, &database.limits, &word)
 }
 
 /// Replies with the value of a key.
 fn get<S: BuildHasher>(
     key: &[u8],
-    shared: &Shared<S>,
-    session: &mut Session,
+    database: &Database<S>,
+    version: Version,
+    out: &mut BytesMut,
 ) -> Result<(), AllocError>
-    requires { FitsEffect shared.now.limits
-        (effect_of shared.now.store session.old.version 0 (spec.Get key.now)) }
-    ensures runs { Runs shared.now.store shared.now.store session.old session.new
-        (effect_of shared.now.store session.old.version 0 (spec.Get key.now)) result }
+    requires { FitsEffect database.now.limits
+        (effect_of database.now.store version 0 (spec.Get key.now)) }
+    ensures runs { Runs database.now.store database.now.store version version out.old.items
+        out.new.items (effect_of database.now.store version 0 (spec.Get key.now)) result }
 {
-    match shared.store.get(key) {
-        Some(stored) => reply(
-            &mut session.out,
-            session.version,
-            &shared.limits,
-            stored.reply(),
-        ),
-        None => reply(
-            &mut session.out,
-            session.version,
-            &shared.limits,
-            &Value::Null,
-        ),
+    match database.store.get(key) {
+        Some(stored) => reply(out, version, &database.limits, stored.reply()),
+        None => reply(out, version, &database.limits, &Value::Null),
     }
 }
 
@@ -105,61 +102,61 @@ fn set<S: BuildHasher>(
     condition: Condition,
     key: &[u8],
     value: &[u8],
-    shared: &mut Shared<S>,
-    session: &mut Session,
+    database: &mut Database<S>,
+    version: Version,
+    out: &mut BytesMut,
 ) -> Result<(), AllocError>
-    requires { FitsEffect shared.old.limits (effect_of shared.old.store session.old.version 0
+    requires { FitsEffect database.old.limits (effect_of database.old.store version 0
         (spec.Set (condition_in condition) key.now value.now)) }
-    ensures runs { Runs shared.old.store shared.new.store session.old session.new
-        (effect_of shared.old.store session.old.version 0
+    ensures runs { Runs database.old.store database.new.store version version out.old.items
+        out.new.items (effect_of database.old.store version 0
         (spec.Set (condition_in condition) key.now value.now)) result }
-    ensures same_limits { shared.new.limits ≡ shared.old.limits }
+    ensures same_limits { database.new.limits ≡ database.old.limits }
 {
-    if !is_met(condition, key, &shared.store) {
-        return reply(
-            &mut session.out,
-            session.version,
-            &shared.limits,
-            &Value::Null,
-        );
+    if !is_met(condition, key, &database.store) {
+        return reply(out, version, &database.limits, &Value::Null);
     }
-    session.out.reserve(5)?;
-    shared.store.set(key, value, shared.alloc)?;
-    session.out.extend_reserved(b"+OK\r\n");
+    out.reserve(5)?;
+    database.store.set(key, value, database.alloc)?;
+    out.extend_reserved(b"+OK\r\n");
     Ok(())
 }
 
 /// Removes the keys, and replies with the number of keys that existed.
 fn del<S: BuildHasher>(
     keys: Words<'_>,
-    shared: &mut Shared<S>,
-    session: &mut Session,
+    database: &mut Database<S>,
+    version: Version,
+    out: &mut BytesMut,
 ) -> Result<(), AllocError>
-    requires { FitsEffect shared.old.limits (effect_of shared.old.store session.old.version 0
+    requires { FitsEffect database.old.limits (effect_of database.old.store version 0
         (spec.Del (words_left keys))) }
-    ensures runs { Runs shared.old.store shared.new.store session.old session.new
-        (effect_of shared.old.store session.old.version 0 (spec.Del (words_left keys.entry)))
+    ensures runs { Runs database.old.store database.new.store version version out.old.items
+        out.new.items (effect_of database.old.store version 0 (spec.Del (words_left keys.entry)))
         result }
-    ensures same_limits { shared.new.limits ≡ shared.old.limits }
+    ensures same_limits { database.new.limits ≡ database.old.limits }
 {
-    session.out.reserve(NUMBER_ROOM)?;
-    let removed = shared.store.remove(keys);
-    reserved_number(&mut session.out, removed);
+    out.reserve(NUMBER_ROOM)?;
+    let removed = database.store.remove(keys);
+    reserved_number(out, removed);
     Ok(())
 }
 
-/// Changes the version if one is requested, and replies with the description of the session in that
+/// Changes the version if one is requested, and replies with the description of the client in that
 /// version.
 fn hello<S: BuildHasher>(
     asked: Option<Version>,
-    shared: &Shared<S>,
-    session: &mut Session,
+    database: &Database<S>,
+    id: u64,
+    version: &mut Version,
+    out: &mut BytesMut,
 ) -> Result<(), AllocError>
-    ensures runs { Runs shared.now.store shared.now.store session.old session.new
-        (effect_of shared.now.store session.old.version session.old.id (spec.Hello asked)) result }
+    ensures runs { Runs database.now.store database.now.store version.old version.new
+        out.old.items out.new.items
+        (effect_of database.now.store version.old id (spec.Hello asked)) result }
 {
-    let next = asked.unwrap_or(session.version);
-    greeting(&mut session.out, next, session.id)?;
-    session.version = next;
+    let next = asked.unwrap_or(*version);
+    greeting(out, next, id)?;
+    *version = next;
     Ok(())
 }

@@ -4,10 +4,10 @@ ghost use Rattle.std.specs.Prelude.{◌≡◌, ◌+◌, ◌≤◌, length, OnOk,
 ghost use Rattle.resp_value.specs.declared.cause.Cause.TheVariants.{OutOfMemory};
 ghost use Rattle.resp_server.specs.Answering.{AnswersFault, IsNamedFault, IsReading, TakesTurn};
 
-use crate::answer_value::{answer_value, run_command};
+use crate::answer_value::answer_value;
+use crate::database::Database;
 use crate::reply;
 use crate::session::Session;
-use crate::shared::Shared;
 use crate::words::Words;
 use resp_scan::event::Fault;
 use resp_scan::whole;
@@ -29,45 +29,54 @@ pub(crate) struct Turn {
 /// Reads up to the end of a value or of the piece, and responds to the value or the fault. When out
 /// of memory, the store, the session's version and the waiting bytes are unchanged.
 pub(crate) fn take_turn<S: BuildHasher>(
-    shared: &mut Shared<S>,
+    database: &mut Database<S>,
     session: &mut Session,
     piece: &[u8],
 ) -> Result<Turn, AllocError>
-    requires { IsReading shared.old.limits shared.old.store session.old }
-    ensures { TakesTurn shared.old.limits shared.new.limits shared.old.store shared.new.store
+    requires { IsReading database.old.limits database.old.store session.old }
+    ensures { TakesTurn database.old.limits database.new.limits database.old.store database.new.store
         session.old session.new piece.now result }
 {
     if session.decoder.is_between() {
-        if let Some(command) = whole::command(piece, &shared.limits) {
+        if let Some(command) = whole::command(piece, &database.limits) {
             laws::a_command_is_its_words();
             grammar::no_spelling_is_empty();
             grammar::the_empty_text_is_viable();
-            shared.limits.are_in_range();
+            database.limits.are_in_range();
             let used = piece.len() - command.rest.len();
             let arguments = Words::Lent(command.arguments);
-            run_command(command.name, arguments, shared, session)?;
+            database.run(
+                command.name,
+                arguments,
+                session.id,
+                &mut session.version,
+                &mut session.out,
+            )?;
             return Ok(Turn { used, commands: 1 });
         }
     }
-    read_turn(shared, session, piece)
+    read_turn(database, session, piece)
 }
 
 /// Reads with the decoder, and responds to the value or the fault. It is not inlined, since most
 /// commands are completely in a piece.
 #[inline(never)]
 fn read_turn<S: BuildHasher>(
-    shared: &mut Shared<S>,
+    database: &mut Database<S>,
     session: &mut Session,
     piece: &[u8],
 ) -> Result<Turn, AllocError>
-    requires { IsReading shared.old.limits shared.old.store session.old }
-    ensures { TakesTurn shared.old.limits shared.new.limits shared.old.store shared.new.store
+    requires { IsReading database.old.limits database.old.store session.old }
+    ensures { TakesTurn database.old.limits database.new.limits database.old.store database.new.store
         session.old session.new piece.now result }
 {
     grammar::no_spelling_is_empty();
     grammar::the_empty_text_is_viable();
-    shared.limits.are_in_range();
-    let fed = match session.decoder.feed(shared.alloc, &shared.limits, piece) {
+    database.limits.are_in_range();
+    let fed = match session
+        .decoder
+        .feed(database.alloc, &database.limits, piece)
+    {
         Ok(fed) => fed,
         Err(fault) => {
             refuse(session, fault)?;
@@ -81,7 +90,7 @@ fn read_turn<S: BuildHasher>(
     let Some(value) = fed.value else {
         return Ok(Turn { used, commands: 0 });
     };
-    let commands = answer_value(value, shared, session)?;
+    let commands = answer_value(value, database, session)?;
     Ok(Turn { used, commands })
 }
 

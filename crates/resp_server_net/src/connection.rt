@@ -1,23 +1,20 @@
 //! One connection of the server.
 
-ghost use Rattle.std.specs.Prelude.{◌≡◌, None};
-ghost use Rattle.resp_server.specs.Hubs.{seat_at};
+ghost use Rattle.std.specs.Prelude.{◌≡◌, false};
 
 use resp_io::device::Device;
 use resp_net::non_blocking::{Input, Output};
 use resp_net::service::Next;
 use resp_net::stream::Stream;
-use resp_server::Hub;
-use resp_wire::ServeError;
-use resp_wire::serve::serve_with;
+use resp_wire::serve::serve_client;
+use resp_wire::{ServeError, Sessions};
 use std::alloc::{AllocError, Global};
-use std::hash::BuildHasher;
 use std::io::{Read, Write};
 use std::time::Duration;
 use std::{io, mem};
 
 /// The maximum number of reads and writes of a connection before the other connections are served.
-pub(crate) const TURNS: u64 = 16;
+const TURNS: u64 = 16;
 
 /// The maximum number of bytes of one read.
 pub const PIECE: usize = 16_384;
@@ -125,36 +122,36 @@ impl Read for Received<'_> {
     }
 }
 
-/// Runs the commands that a client has sent and writes the replies, until a read or write would
-/// block, or 16 of them were made. The commands of the session `id` are read into the buffer of
-/// `room`, after those in `rest`. `is_at_end` says whether the input may have ended. If not, it is
-/// not read again after a read that did not fill the buffer.
+/// Runs the commands that a client of a store has sent and writes the replies, until a read or
+/// write would block, or 16 of them were made. The commands are read into the buffer of `room`,
+/// after those in `rest`. `is_at_end` says whether the input may have ended. If not, it is not read
+/// again after a read that did not fill the buffer.
 ///
 /// The replies to what was read are written before more is read. If they cannot be written yet,
-/// they wait in the hub. The bytes that wait are at most as many as `room` allows, plus one reply.
+/// they wait in the store. The bytes that wait are at most as many as `room` allows, plus one reply.
 /// The commands that were read and not run are in `rest`.
 ///
 /// If the memory for the rest cannot be allocated, the connection is closed.
-pub fn answer<R: Read + Drop, W: Write + Drop, S: BuildHasher>(
+pub fn answer<R: Read + Drop, W: Write + Drop, C, T: Sessions<C>>(
     reader: R,
     writer: W,
-    hub: &mut Hub<S>,
-    id: u64,
+    store: &mut T,
+    client: &mut C,
     room: &mut Room,
     rest: &mut Rest,
     is_at_end: bool,
 ) -> Next
-    ensures no_session { seat_at hub.old id ≡ None → (result ≡ Next.Close) ×
-        (hub.new ≡ hub.old) }
+    ensures nobody { T.has store.old client.old ≡ false → (result ≡ Next.Close) ×
+        (store.new ≡ store.old) × (client.new ≡ client.old) }
 {
     let first = mem::replace(rest, Rest::new(room.alloc));
     let mut reader = Device::new(Input::after(first.bytes.as_slice(), reader, is_at_end));
     let mut writer = Device::new(Output::new(writer));
-    let visit = serve_with(
+    let visit = serve_client(
         &mut reader,
         &mut writer,
-        hub,
-        id,
+        store,
+        client,
         TURNS,
         &mut room.buffer,
         room.held,
@@ -162,7 +159,7 @@ pub fn answer<R: Read + Drop, W: Write + Drop, S: BuildHasher>(
     let reader = reader.into_inner();
     let waits = match visit.end {
         Ok(_) | Err(ServeError::NoSession) => return Next::Close,
-        // The session is closing. The bytes that wait still have to be written.
+        // The client is closing. The bytes that wait still have to be written.
         Err(ServeError::TooManyTurns | ServeError::OutOfMemory) => None,
         Err(ServeError::Read) => Some(reader.would_wait()),
         Err(ServeError::Write) => Some(writer.into_inner().would_wait()),
@@ -174,13 +171,7 @@ pub fn answer<R: Read + Drop, W: Write + Drop, S: BuildHasher>(
 /// Joins and holds the bytes that were read and whose commands were not run. Returns when the
 /// connection is visited next. `waits` says whether the socket would block, if a read or a write
 /// has failed.
-pub(crate) fn hold(
-    alloc: Global,
-    rest: &mut Rest,
-    bytes: &[u8],
-    more: &[u8],
-    waits: Option<bool>,
-) -> Next {
+fn hold(alloc: Global, rest: &mut Rest, bytes: &[u8], more: &[u8], waits: Option<bool>) -> Next {
     match Rest::copy(alloc, bytes, more) {
         Ok(left) => *rest = left,
         Err(_) => return Next::Close,

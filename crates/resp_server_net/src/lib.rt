@@ -1,11 +1,11 @@
 //! A server for many connections at once, in one thread, over non-blocking sockets.
 //!
-//! A [`StoreServer`] is a service of [`resp_net::Loop`]. Its [`Store`] serves each ready connection.
-//! A [`Server`] has the store of a hub and calls [`answer`], which calls
-//! [`resp_wire::serve::serve_with`]. The contract of that function states which bytes are read, which
-//! replies are written and which bytes still wait if the socket accepts no more.
+//! A [`StoreServer`] is a service of [`resp_net::Loop`]. For each ready connection it calls
+//! [`answer`], which calls [`resp_wire::serve::serve_client`] with its [`Store`]. The contract of
+//! that function states which bytes are read, which replies are written and which bytes still wait if
+//! the socket accepts no more.
 //!
-//! A [`TestServer`] has 16 databases and calls [`resp_databases::serve`].
+//! The store of a [`Server`] is a hub, and that of a [`TestServer`] are 16 databases.
 #![tactic(auto)]
 
 mod connection;

@@ -1,9 +1,8 @@
 //! The server: its loop, its store, and what it does with a connection.
 
-use crate::connection::{Connection, Incoming, Rest, Room};
+use crate::connection::{Connection, Incoming, Received, Rest, Room, answer};
 use crate::store::Store;
 use mio::Registry;
-use resp_databases::{Client, Databases};
 use resp_net::backend::Address;
 use resp_net::closing::{LINGER, close, drop_input};
 use resp_net::deadlines::Deadlines;
@@ -12,7 +11,7 @@ use resp_net::event_loop::Loop;
 use resp_net::register::register;
 use resp_net::service::{Next, Service, Tokens, shorter};
 use resp_net::stream::Stream;
-use resp_server::Hub;
+use resp_server::{Client, Databases, Hub};
 use resp_value::limits::Limits;
 use std::alloc::Global;
 use std::fs::Files;
@@ -144,12 +143,16 @@ impl<T> Replies<T> {
         if self.drain.has_begun() {
             connection.incoming = Incoming::Shut;
         }
-        let next = self.store.visit(
-            &mut connection.client,
+        let received = Received::new(&connection.stream, connection.incoming);
+        let may_have_ended = received.may_have_ended();
+        let next = answer(
+            received,
             &connection.stream,
+            &mut self.store,
+            &mut connection.client,
             &mut self.room,
             &mut connection.rest,
-            connection.incoming,
+            may_have_ended,
         );
         match next {
             Next::Close => self.linger(connection),

@@ -11,3 +11,4 @@ pub mod LinkTraffic
 pub mod Visited
 pub mod HubSessions
 pub mod HubVisits
+pub mod DatabasesVisits

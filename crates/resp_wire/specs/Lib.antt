@@ -14,3 +14,4 @@ pub mod Worlds
 pub mod Ends
 pub mod Happening
 pub mod WorldOrders
+pub mod DatabasesClients

@@ -3,13 +3,14 @@
 //!
 //! [`ask::ask`] writes a client's requests and reads the replies. [`serve::serve`] reads commands
 //! and writes the replies, and [`serve::serve_client`] does so for any server that implements
-//! [`Sessions`]. A [`world::World`] simulates several clients of one server, with events that
+//! [`Sessions`], as [`databases::serve`] does for the 16 databases. A [`world::World`] simulates several clients of one server, with events that
 //! happen one after another.
 #![tactic(auto)]
 
 pub mod ask;
 pub mod asked;
 mod carrying;
+pub mod databases;
 mod end;
 pub mod error;
 pub mod event;

@@ -1,7 +1,7 @@
 //! The server of 16 databases.
 
 use crate::outcome::Outcome;
-use resp_databases::{Client, Databases};
+use resp_server::{Client, Databases};
 use resp_value::limits::Limits;
 use std::alloc::{AllocError, Global};
 use std::hash::{BuildHasherDefault, FoldHasher};

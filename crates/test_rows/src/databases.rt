@@ -6,7 +6,7 @@ use crate::spelling::add_quoted;
 use crate::subject::Subject;
 use crate::text::{self, number, split};
 use anyhow::{Context, Result, bail};
-use resp_databases::{Client, Databases};
+use resp_server::{Client, Databases};
 use resp_value::limits::Limits;
 use std::alloc::{AllocError, Global};
 use std::hash::{BuildHasherDefault, FoldHasher};

@@ -133,7 +133,7 @@ fn visit(
         writes: &writes,
     };
     let Memory { room, rest } = memory;
-    let next = answer(client, replies, hub, 1, room, rest, ends);
+    let next = answer(client, replies, hub, &mut 1, room, rest, ends);
     Seen {
         next,
         reads: reads.get(),
@@ -257,6 +257,6 @@ fn a_writer_that_fails_closes_the_connection(rt: HostRuntime) {
         writes: &writes,
     };
     let Memory { room, rest } = &mut Memory::new(&rt, HELD);
-    let next = answer(client, replies, &mut hub, 1, room, rest, false);
+    let next = answer(client, replies, &mut hub, &mut 1, room, rest, false);
     check_equal(&rt, next, Next::Close);
 }

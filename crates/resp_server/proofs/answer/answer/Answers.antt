@@ -30,12 +30,12 @@ take_turn-requires g c =
 pub returns-in-Err-clause-stored : goal.returns-in-Err-clause-stored
 returns-in-Err-clause-stored g c =
     let i = c.loop-used.invariant in
-    subst (λ limits. FitsStore limits c.take_turn.new.shared.store) i.same_limits c.take_turn.ensures.within.stored
+    subst (λ limits. FitsStore limits c.take_turn.new.database.store) i.same_limits c.take_turn.ensures.within.stored
 
 pub returns-then-session-clause-stored : goal.returns-then-session-clause-stored
 returns-then-session-clause-stored g c =
     let i = c.loop-used.invariant in
-    subst (λ limits. FitsStore limits c.take_turn.new.shared.store) i.same_limits c.take_turn.ensures.within.stored
+    subst (λ limits. FitsStore limits c.take_turn.new.database.store) i.same_limits c.take_turn.ensures.within.stored
 
 pub returns-in-Err-clause-cut_short : goal.returns-in-Err-clause-cut_short
 returns-in-Err-clause-cut_short g c front taken =
@@ -48,11 +48,11 @@ pub returns-then-session-clause-answered : goal.returns-then-session-clause-answ
 returns-then-session-clause-answered g c front taken =
     let i = c.loop-used.invariant in
     let before = i.answered front taken in
-    let turn = subst (λ limits. AnswersBytes limits c.loop-used.shared.store c.take_turn.new.shared.store c.loop-used.session c.take_turn.new.session
+    let turn = subst (λ limits. AnswersBytes limits c.loop-used.shared.store c.take_turn.new.database.store c.loop-used.session c.take_turn.new.session
     before.rest (take (length c.args.piece.now - c.loop-used.used) (drop c.loop-used.used c.args.piece.now)) c.in-Ok.turn.used c.in-Ok.turn.commands)
     i.same_limits (c.in-Ok.ensures.answered before.rest (before.taking i.ready.is_open)) in
     let all = length c.args.piece.now in
-    subst (λ t. IsAnswered c.args.shared.now.limits c.args.shared.now.store c.take_turn.new.shared.store c.args.session.now c.take_turn.new.session
+    subst (λ t. IsAnswered c.args.database.now.limits c.args.database.now.store c.take_turn.new.database.store c.args.session.now c.take_turn.new.session
     (front ++ t) (c.loop-used.commands + c.in-Ok.turn.commands)) (sym (take_all all c.args.piece.now (omega arith)))
     (closed_answered c.answers_end.ensures front c.args.piece.now (c.loop-used.used + c.in-Ok.turn.used) c.if-session.true
     (turn_answered c.answers_go_on.ensures front c.args.piece.now c.loop-used.used c.loop-used.commands i.same_id i.ready.is_open before turn))
@@ -76,7 +76,7 @@ loop-used-preserved g c =
     record {
       answered = λ front taken.
           let a = i.answered front taken in
-          let turn = subst (λ limits. AnswersBytes limits c.loop-used.shared.store c.take_turn.new.shared.store c.loop-used.session
+          let turn = subst (λ limits. AnswersBytes limits c.loop-used.shared.store c.take_turn.new.database.store c.loop-used.session
           c.take_turn.new.session a.rest (take (length c.args.piece.now - c.loop-used.used) (drop c.loop-used.used c.args.piece.now)) c.in-Ok.turn.used
           c.in-Ok.turn.commands) i.same_limits (c.in-Ok.ensures.answered a.rest (a.taking i.ready.is_open)) in
           turn_answered c.answers_go_on.ensures front c.args.piece.now c.loop-used.used c.loop-used.commands i.same_id
@@ -85,7 +85,7 @@ loop-used-preserved g c =
       same_id = c.in-Ok.ensures.same_id ∙ i.same_id;
       ready = record {
         is_open = c.if-session.false;
-        stored = subst (λ limits. FitsStore limits c.take_turn.new.shared.store) i.same_limits c.in-Ok.ensures.within.stored;
+        stored = subst (λ limits. FitsStore limits c.take_turn.new.database.store) i.same_limits c.in-Ok.ensures.within.stored;
         reading = subst (λ limits. ReadsBy (server_rules limits) c.take_turn.new.session.decoder) i.same_limits c.in-Ok.ensures.reading;
         taking = (one.rest, one.taking c.if-session.false);
       };

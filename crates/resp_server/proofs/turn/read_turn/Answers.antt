@@ -16,7 +16,7 @@ pub returns-in-Err : goal.returns-in-Err
 returns-in-Err g c = record {
   answered = λ front taken.
       let done = c.in_ok-refuse-in-Err.ensures.refused in
-      refused_turn (refused_by c.args.shared.now.limits (c.in-Err.ensures.refusal front taken) done.caused)
+      refused_turn (refused_by c.args.database.now.limits (c.in-Err.ensures.refusal front taken) done.caused)
       c.in_ok-refuse-in-Err.ensures.same_version done.closes done.line;
   unchanged = tt;
   within = search rules;
@@ -42,7 +42,7 @@ answer_value-requires-clause-spelled g c =
     let given = c.in-Ok.ensures.value_whole front taken c.in-Some.value c.in-Some.is in
     let written = front ++ take c.in-Ok.fed.used c.args.piece.now in (
       written,
-      subst (λ v. IsSpelling (server_rules c.args.shared.now.limits) (datum_of v) written) (sym c.in-Some.value-is)
+      subst (λ v. IsSpelling (server_rules c.args.database.now.limits) (datum_of v) written) (sym c.in-Some.value-is)
           given.spelling,
     )
 
@@ -51,11 +51,11 @@ returns g c = record {
   answered = λ front taken.
       let given = c.in-Ok.ensures.value_whole front taken c.in-Some.value c.in-Some.is in
       let before : Session = c.args.session.now in
-      let store' = c.answer_value.new.shared.store in
-      let answered = subst (λ v. IsAnswerTo (datum_of v) c.args.shared.now.store store' before c.answer_value.new.session c.in_ok-commands.commands)
+      let store' = c.answer_value.new.database.store in
+      let answered = subst (λ v. IsAnswerTo (datum_of v) c.args.database.now.store store' before c.answer_value.new.session c.in_ok-commands.commands)
       c.in-Some.value-is (same_answer c.in_ok-commands.ensures.answered refl refl refl) in
       value_turn c.no_spelling_is_empty.ensures c.the_empty_text_is_viable.ensures c.are_in_range.ensures
-      (none_taken c.no_spelling_is_empty.ensures (server_rules c.args.shared.now.limits) c.args.session.now.decoder front taken) given
+      (none_taken c.no_spelling_is_empty.ensures (server_rules c.args.database.now.limits) c.args.session.now.decoder front taken) given
       c.in-Ok.ensures.within_piece c.answer_value.ensures.same_decoder answered;
   unchanged = tt;
   within = search rules;

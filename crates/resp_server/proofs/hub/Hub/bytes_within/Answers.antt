@@ -53,13 +53,13 @@ invariant_of-self-in-Err g c =
     c.if-session.false in
     answered_sound c.self.invariant c.answer-answered.ensures.same_limits c.args.id c.shrink.new.self (c.get_mut.follows.holds _).0 c.in-Some.ensures.value
     c.answer-answered.ensures.stored (c.shrink.ensures.same_id ∙ c.answer-answered.ensures.same_id)
-    (c.shrink.ensures.reading (server_rules i.shared.limits) c.answer-answered.ensures.reading)
+    (c.shrink.ensures.reading (server_rules i.database.limits) c.answer-answered.ensures.reading)
     (λ is_open. absurd (false≢true (sym is_open ∙ c.shrink.ensures.same_closing ∙ (c.in-Err.ensures.cut_short front taken).closes))) c.shrink.ensures.idle
 
 pub returns-in-Err-clause-cut_short : goal.returns-in-Err-clause-cut_short
 returns-in-Err-clause-cut_short g c =
     let i = c.self.inside in
-    hub_cut_short i.sessions.entries i.shared.store i.last c.self.view_is c.answer-answered.ensures.same_limits c.answer-answered.new.shared.store
+    hub_cut_short i.sessions.entries i.database.store i.last c.self.view_is c.answer-answered.ensures.same_limits c.answer-answered.new.database.store
     c.shrink.new.self (c.get_mut.follows.holds _).0 c.in-Some.ensures.value c.args.piece.now c.in-Err.commands
     (sound_at i.sessions.entries c.in-Some.ensures.value c.self.invariant.sound).same_id
     (λ front taken. let s = c.shrink.ensures in cut_short_shrunk s.same_version s.same_out s.same_closing (c.in-Err.ensures.cut_short front taken))
@@ -79,14 +79,14 @@ invariant_of-self-2 g c =
     let answered = c.in-Ok.ensures.answered front taken in
     answered_sound c.self.invariant c.answer-answered.ensures.same_limits c.args.id c.shrink.new.self (c.get_mut.follows.holds _).0 c.in-Some.ensures.value
     c.answer-answered.ensures.stored (c.shrink.ensures.same_id ∙ c.answer-answered.ensures.same_id)
-    (c.shrink.ensures.reading (server_rules i.shared.limits) c.answer-answered.ensures.reading)
+    (c.shrink.ensures.reading (server_rules i.database.limits) c.answer-answered.ensures.reading)
     (λ is_open. let open_before = sym c.shrink.ensures.same_closing ∙ is_open in
     (answered.rest, c.shrink.ensures.same_taken open_before answered.rest (answered.taking open_before))) c.shrink.ensures.idle
 
 pub returns-clause-answered : goal.returns-clause-answered
 returns-clause-answered g c =
     let i = c.self.inside in
-    hub_answered i.sessions.entries i.shared.store i.last c.self.view_is c.answer-answered.ensures.same_limits c.answer-answered.new.shared.store
+    hub_answered i.sessions.entries i.database.store i.last c.self.view_is c.answer-answered.ensures.same_limits c.answer-answered.new.database.store
     c.shrink.new.self (c.get_mut.follows.holds _).0 c.in-Some.ensures.value (take c.in-Ok.taken.used c.args.piece.now) c.in-Ok.taken.commands
     (sound_at i.sessions.entries c.in-Some.ensures.value c.self.invariant.sound).same_id
     (λ front taken. let s = c.shrink.ensures in answered_shrunk s.same_version s.same_out s.same_closing s.same_taken
@@ -102,7 +102,7 @@ returns-clause-no_session g c none =
 pub returns-in_default-clause-idle : goal.returns-in_default-clause-idle
 returns-in_default-clause-idle g c =
     let i = c.self.inside in
-    holds_no_idle c.args.id (subst (λ (m : BTreeMap ℕ Session). HubIsSound i.shared.limits m.entries i.shared.store i.last)
+    holds_no_idle c.args.id (subst (λ (m : BTreeMap ℕ Session). HubIsSound i.database.limits m.entries i.database.store i.last)
     (sym c.get_mut.follows.holds-at-none) c.self.invariant)
 
 pub returns-then-session-clause-idle : goal.returns-then-session-clause-idle
@@ -120,7 +120,7 @@ returns-then-session-clause-within g c =
     let session : Session = c.in-Some.session.now in
     let waits = length session.out.items in
     let size = length c.args.piece.now in
-    if_changed _ _ _ _ c.self.view_is i.shared.limits i.shared.store c.args.id session (c.get_mut.follows.holds _).0
+    if_changed _ _ _ _ c.self.view_is i.database.limits i.database.store c.args.id session (c.get_mut.follows.holds _).0
     c.in-Some.ensures.value (λ (s t : Seat). TakesWithin c.args.held (length s.out) (length t.out) t.closing size size)
     (record { within = omega arith; stops = λ less. absurd (omega (arith, less)); onward = λ few some. some })
 
@@ -128,17 +128,17 @@ pub returns-then-session-clause-bounded : goal.returns-then-session-clause-bound
 returns-then-session-clause-bounded g c =
     let i = c.self.inside in
     let session : Session = c.in-Some.session.now in
-    still_few _ _ _ _ c.self.view_is i.shared.limits i.shared.store c.args.id session (c.get_mut.follows.holds _).0
+    still_few _ _ _ _ c.self.view_is i.database.limits i.database.store c.args.id session (c.get_mut.follows.holds _).0
     c.in-Some.ensures.value (c.args.held + c.args.self.now.limits.total) (λ few. few)
 
 pub returns-in-Err-clause-bounded : goal.returns-in-Err-clause-bounded
 returns-in-Err-clause-bounded g c =
-    answer_is_bounded _ _ _ _ c.self.view_is c.answer-answered.new.shared.limits c.answer-answered.new.shared.store c.args.id c.answer-answered.new.session _
+    answer_is_bounded _ _ _ _ c.self.view_is c.answer-answered.new.database.limits c.answer-answered.new.database.store c.args.id c.answer-answered.new.session _
     (c.get_mut.follows.holds _).0 c.in-Some.ensures.value c.args.held c.answer-answered.ensures.bounded c.shrink.ensures.same_out
 
 pub returns-clause-bounded : goal.returns-clause-bounded
 returns-clause-bounded g c =
-    answer_is_bounded _ _ _ _ c.self.view_is c.answer-answered.new.shared.limits c.answer-answered.new.shared.store c.args.id c.answer-answered.new.session _
+    answer_is_bounded _ _ _ _ c.self.view_is c.answer-answered.new.database.limits c.answer-answered.new.database.store c.args.id c.answer-answered.new.session _
     (c.get_mut.follows.holds _).0 c.in-Some.ensures.value c.args.held c.answer-answered.ensures.bounded c.shrink.ensures.same_out
 
 pub returns-clause-within : goal.returns-clause-within
@@ -146,7 +146,7 @@ returns-clause-within g c =
     let size = length c.args.piece.now in
     let used = c.in-Ok.taken.used in
     let before = length c.in-Some.session.now.out.items in
-    if_changed _ _ _ _ c.self.view_is c.answer-answered.new.shared.limits c.answer-answered.new.shared.store c.args.id c.shrink.new.self
+    if_changed _ _ _ _ c.self.view_is c.answer-answered.new.database.limits c.answer-answered.new.database.store c.args.id c.shrink.new.self
     (c.get_mut.follows.holds _).0 c.in-Some.ensures.value (λ (s t : Seat). TakesWithin c.args.held (length s.out) (length t.out) t.closing size
     used) (subst (λ n. TakesWithin c.args.held before n c.shrink.new.self.closing size used) (sym (ap length c.shrink.ensures.same_out))
     (subst (λ b. TakesWithin c.args.held before (length c.answer-answered.new.session.out.items) b size used) (sym c.shrink.ensures.same_closing)

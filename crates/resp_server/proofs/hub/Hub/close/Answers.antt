@@ -12,14 +12,14 @@ invariant_of-self-2 g c =
     record {
       stored = c.self.invariant.stored;
       few = c.self.invariant.few;
-      sound = subst (AreSound i.shared.limits i.last) (sym c.in-Some.ensures.entries)
-          (sound_remove i.shared.limits i.last i.sessions.entries c.args.id c.self.invariant.sound);
+      sound = subst (AreSound i.database.limits i.last) (sym c.in-Some.ensures.entries)
+          (sound_remove i.database.limits i.last i.sessions.entries c.args.id c.self.invariant.sound);
     }
 
 pub returns-clause-closed : goal.returns-clause-closed
 returns-clause-closed g c =
     let i = c.self.inside in
-    ap (λ sessions. record { limits = i.shared.limits; sessions = sessions; store = i.shared.store; last = i.last })
+    ap (λ sessions. record { limits = i.database.limits; sessions = sessions; store = i.database.store; last = i.last })
     (ap seats_of c.in-Some.ensures.entries ∙ seats-remove i.sessions.entries c.args.id) ∙
     ap (λ (hub : HubState). record hub { sessions = without_seat hub.sessions c.args.id }) c.self.view_is
 
@@ -29,4 +29,4 @@ returns-clause-some g c = seat_is_there _ _ _ _ c.self.view_is c.args.id c.in-So
 pub returns-clause-gone : goal.returns-clause-gone
 returns-clause-gone g c =
     let i = c.self.inside in
-    seat_is i.shared.limits c.remove.new.self.entries i.shared.store i.last _ refl c.args.id (sym c.in-Some.ensures.updates.1)
+    seat_is i.database.limits c.remove.new.self.entries i.database.store i.last _ refl c.args.id (sym c.in-Some.ensures.updates.1)

@@ -26,8 +26,8 @@ pub returns-in-Err-clause-verdict : goal.returns-in-Err-clause-verdict
 returns-in-Err-clause-verdict g c =
     let i = c.self.inside in
     subst (λ limits. IsPushVerdict limits (seat_at c.args.self.now c.args.id) (push_of c.args.items.now) (Err c.in-Err.error))
-    (ap (λ (hub : HubState). hub.limits) c.self.view_is) (subst (λ seat. IsPushVerdict i.shared.limits seat
-    (push_of c.args.items.now) (Err c.in-Err.error)) (sym (seat_is i.shared.limits i.sessions.entries i.shared.store i.last
+    (ap (λ (hub : HubState). hub.limits) c.self.view_is) (subst (λ seat. IsPushVerdict i.database.limits seat
+    (push_of c.args.items.now) (Err c.in-Err.error)) (sym (seat_is i.database.limits i.sessions.entries i.database.store i.last
     c.args.self.now c.self.view_is c.args.id c.in-Some.ensures.value)) c.in-Err.ensures.verdict)
 
 pub invariant_of-self-2 : goal.invariant_of-self-2
@@ -47,6 +47,6 @@ returns-clause-verdict g c =
     let i = c.self.inside in
     subst (λ limits. IsPushVerdict limits (seat_at c.args.self.now c.args.id) (push_of c.args.items.now) (Ok tt))
     (ap (λ (hub : HubState). hub.limits) c.self.view_is) (subst
-    (λ seat. IsPushVerdict i.shared.limits seat (push_of c.args.items.now) (Ok tt))
+    (λ seat. IsPushVerdict i.database.limits seat (push_of c.args.items.now) (Ok tt))
     (sym (seat_is _ _ _ _ c.args.self.now c.self.view_is c.args.id c.in-Some.ensures.value))
     c.in_default-queue_push.ensures.verdict)

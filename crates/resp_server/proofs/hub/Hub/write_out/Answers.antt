@@ -24,7 +24,7 @@ returns-clause-sent g c = (written_out _ _ _ _ c.self.view_is c.args.id _ (c.get
 pub returns-clause-closing : goal.returns-clause-closing
 returns-clause-closing g c =
     let i = c.self.inside in
-    ap (option_map (λ (s : Seat). s.closing)) (seat_changed i.shared.limits i.sessions.entries i.shared.store i.last c.args.id _
+    ap (option_map (λ (s : Seat). s.closing)) (seat_changed i.database.limits i.sessions.entries i.database.store i.last c.args.id _
     (c.get_mut.follows.holds _).0 c.in-Some.ensures.value)
 
 pub returns-clause-part : goal.returns-clause-part

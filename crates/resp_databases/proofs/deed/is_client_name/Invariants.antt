@@ -1,6 +1,0 @@
-use Rattle.std.proofs.Common.{◌≡◌, drop}
-use Rattle.resp_databases.specs.Names.{is_client_name}
-use Rattle.resp_databases.proofs.deed.is_client_name.Given as goal
-
-abbrev pub invariant-loop-byte : goal.invariant-loop-byte
-invariant-loop-byte l = is_client_name l.name ≡ is_client_name (drop l.byte-index l.name)

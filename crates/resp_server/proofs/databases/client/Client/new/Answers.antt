@@ -1,0 +1,7 @@
+use Rattle.std.proofs.Common.{true}
+use Rattle.resp_value.specs.Rules.{rules_under}
+use Rattle.resp_value.specs.declared.version.Version.TheVariants.{Two}
+use Rattle.resp_server.proofs.databases.client.Client.new.Goals as goal
+
+pub returns-clause-nothing_begun : goal.returns-clause-nothing_begun
+returns-clause-nothing_begun c limits = c.new-3.ensures.nothing (rules_under Two limits) true
