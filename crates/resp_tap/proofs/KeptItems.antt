@@ -6,7 +6,7 @@ use Rattle.std.specs.Borrow.{Bor}
 use Rattle.std.proofs.lemmas.Option.{slice_get_past, slice_get_read}
 use Rattle.resp_print.specs.Printed.{Prints}
 use Rattle.resp_print.specs.declared.print_error.PrintError.{PrintError}
-use Rattle.resp_tap.specs.Keeping.{AddsAny, IsAdded, KeptBy, MayBeAdded}
+use Rattle.resp_tap.specs.Keeping.{IsAdded, KeptBy}
 use Rattle.resp_tap.specs.declared.seen.Seen.{Seen}
 use Rattle.resp_tap.specs.declared.seen.Seen.TheVariants as seen
 
@@ -17,7 +17,7 @@ kept_at kept i (Some x) item = sym (slice_get_read kept (length kept) i x.now re
 
 -- an item was put at the end, unless memory is out
 pub put_last : {A : Type 0} (IsOf : A → Type 0) (old new : List A) (kept : A) (put : Bool) → IsOf kept →
-    new ≡ (if put then old ++ kept ∷ [] else old) → MayBeAdded IsOf old new
+    new ≡ (if put then old ++ kept ∷ [] else old) → IsAdded IsOf old new
 put_last IsOf old new kept true is e = inr (kept, is, e)
 put_last IsOf old new kept false is e = inl e
 
@@ -28,15 +28,6 @@ pub one_more : {A : Type 0} (more : Bool) (Adds : List (List ℕ) → List A →
 one_more more Adds what number words lengths gone old new is_more is added =
     subst (λ w. KeptBy more Adds w gone old new) (sym is)
     (subst (λ b. KeptBy b Adds (seen.Command number words lengths) gone old new) (sym is_more) added)
-
--- of which this is kept
-pub one_is_kept : {A : Type 0} (IsOf : A → Type 0) (more : Bool) (what : Seen) (number : ℕ) (words : List (List ℕ)) (lengths : Vec ℕ Global)
-    (gone : ℕ) (older now new : List A) (kept : A) → more ≡ true → what ≡ seen.Command number words lengths → KeptBy more AddsAny what gone older now →
-    ((first : List A) (last : A) → now ≡ first ++ last ∷ [] → new ≡ first ++ kept ∷ []) → IsOf kept → IsAdded IsOf older new
-one_is_kept IsOf more what number words lengths gone older now new kept is_more is any keeps its =
-    let added = subst (λ b. KeptBy b AddsAny (seen.Command number words lengths) gone older now) is_more
-    (subst (λ w. KeptBy more AddsAny w gone older now) is any) in
-    (kept, its, keeps older added.0 added.2)
 
 -- a text was printed, and so was an equal one
 pub prints_same : (r : Result (Unit {0}) PrintError) (a b : Option (List ℕ)) (f g : ℕ) (text text' : List ℕ)

@@ -203,7 +203,7 @@ state_of_values s values version shown reading = λ i. record s { shown = shown 
 -- ---- a value of the server
 
 -- a value of which this is kept, which is a push or not, and belongs to this command by what is kept
-hears : {T : Type 0} → (s : TapState) (new : Tap T) (written : List ℕ) (kept : CutValue) (whole : Datum) (push : Bool) (number : Option ℕ) →
+hears : (s : TapState) (new : Tap) (written : List ℕ) (kept : CutValue) (whole : Datum) (push : Bool) (number : Option ℕ) →
     IsSpelling (value_rules s) whole written → IsKeptOf s.shown whole kept → ForSome s.shown (λ n. 12 ≤ n) →
     tap_state new ≡ with_value (datum_of kept.value) s → HasTakenValue new [] → is_push (datum_of kept.value) ≡ push →
     number_for s.line (datum_of kept.value) ≡ number → HearsValue s new written kept push number
@@ -217,7 +217,7 @@ hears s new written kept whole push number spelled is enough after takes is_push
   takes = takes;
 }
 
-pub sees_told : {T : Type 0} → (s : TapState) (new : Tap T) (front piece : List ℕ) (used : ℕ) (kept : CutValue) (whole : Datum) (what : Seen) →
+pub sees_told : (s : TapState) (new : Tap) (front piece : List ℕ) (used : ℕ) (kept : CutValue) (whole : Datum) (what : Seen) →
     IsSpelling (value_rules s) whole (front ++ take used piece) → IsKeptOf s.shown whole kept → ForSome s.shown (λ n. 12 ≤ n) →
     tap_state new ≡ with_value (datum_of kept.value) s → HasTakenValue new [] → ToldAs (number_for s.line (datum_of kept.value)) kept what →
     SeesValue s new front piece used what

@@ -4,12 +4,9 @@ pub mod LineLemmas
 pub mod KeptLemmas
 pub mod JsonLemmas
 pub mod TimeLemmas
-pub mod ItemLemmas
 pub mod DateLemmas
 pub mod Streams
 pub mod KeptItems
-pub mod KeptSteps
-pub mod CalledLemmas
 pub mod Counting
 pub mod Fronts
 pub mod PieceLemmas

@@ -32,13 +32,13 @@ use Rattle.resp_tap.specs.declared.tap.Tap.{Tap}
 
 -- ---- which bytes belong to a line
 
-pub line_begins : {T : Type 0} → (lines : Lines) (t : Tap T) (piece : List ℕ) (r : Bool) → lines.are_read ≡ true → (tap_state t).reads_commands ≡ true →
+pub line_begins : (lines : Lines) (t : Tap) (piece : List ℕ) (r : Bool) → lines.are_read ≡ true → (tap_state t).reads_commands ≡ true →
     lines.held.items ≡ [] → WhereRequested t (λ front. front ≡ []) → MatchBool r (BeginsLine piece) (BeginsLine piece → ⊥) →
     MatchBool r (IsInLine lines t piece) (IsNoLine lines t piece)
 line_begins lines t piece true on reads none between begins = record { on = on; reads = reads; begins = inr (between, begins) }
 line_begins lines t piece false on reads none between begins = λ on' reads'. (none, λ front taken empty line. begins line)
 
-pub inside_array : {T : Type 0} → (lines : Lines) (t : Tap T) (piece : List ℕ) (r : Bool) → r ≡ false → lines.held.items ≡ [] →
+pub inside_array : (lines : Lines) (t : Tap) (piece : List ℕ) (r : Bool) → r ≡ false → lines.held.items ≡ [] →
     WhereRequested t (λ front. front ≡ [] → ⊥) → MatchBool r (IsInLine lines t piece) (IsNoLine lines t piece)
 inside_array lines t piece false is none inside = λ on reads. (none, λ front taken empty line. inside front taken empty)
 inside_array lines t piece true is none inside = absurd (cc)
@@ -79,7 +79,7 @@ no_other words m some other same =
 
 -- ---- what is told at the end of a line
 
-pub line_told : {T : Type 0} → NoSpellingBeginsAnother → (now : Option Moment) (old new : Tap T) (line text : List ℕ) (words : List (List ℕ)) (used : ℕ) (what : Seen) →
+pub line_told : NoSpellingBeginsAnother → (now : Option Moment) (old new : Tap) (line text : List ℕ) (words : List (List ℕ)) (used : ℕ) (what : Seen) →
     0 < length words → AreWords words line → text ≡ canonical_text Two (command_of words) →
     IsSpelling (request_rules (tap_state old).limits) (command_of words) text → KeepsTimes now old new →
     SeesRequest (tap_state old) new [] text used what → EndsSo now line old new what
@@ -132,7 +132,7 @@ without_lf_before piece end (first, at) =
     (sym (get_or-take end piece k 0 (subst (λ n. k < n) size below)) ∙ found))
 
 -- a line is too long, or memory for its bytes is out
-pub line_refused : {T : Type 0} → (now : Option Moment) (lines lines' : Lines) (old new : Tap T) (piece last rest : List ℕ) (result : Step) (cause : Cause) (at : ℕ) →
+pub line_refused : (now : Option Moment) (lines lines' : Lines) (old new : Tap) (piece last rest : List ℕ) (result : Step) (cause : Cause) (at : ℕ) →
     piece ≡ last ++ rest → AllByRecursion (λ b. b ≢ 10) last →
     result ≡ record { used = length piece; seen = seen.Refused cause at (place.Command ((tap_state old).commands + 1)) } →
     tap_state new ≡ with_refused_command (tap_state old) →
@@ -152,7 +152,7 @@ line_refused now lines lines' old new piece last rest result cause at begins non
       read = λ on. absurd (let e : true ≡ false = sym on ∙ ap (λ (s : TapState). s.reads_commands) after in cc);
     })
 
-by_end : {T : Type 0} → (now : Option Moment) (lines lines' : Lines) (old new : Tap T) (piece line : List ℕ) (used : ℕ) (what : Seen) → EndsSo now line old new what →
+by_end : (now : Option Moment) (lines lines' : Lines) (old new : Tap) (piece line : List ℕ) (used : ℕ) (what : Seen) → EndsSo now line old new what →
     EndsLine now lines lines' old new piece used what → TellsLine now lines lines' old new piece used what
 by_end now lines lines' old new piece line used seen.Nothing so ends = absurd so
 by_end now lines lines' old new piece line used seen.Passed so ends = ends
@@ -164,7 +164,7 @@ by_end now lines lines' old new piece line used (seen.Push members lengths) so e
 by_end now lines lines' old new piece line used (seen.Value kept) so ends = ends
 
 -- a line ends in the piece
-pub line_ended : {T : Type 0} → (now : Option Moment) (lines lines' : Lines) (old new : Tap T) (piece line : List ℕ) (end used : ℕ) (what : Seen) →
+pub line_ended : (now : Option Moment) (lines lines' : Lines) (old new : Tap) (piece line : List ℕ) (end used : ℕ) (what : Seen) →
     IsFirstByte (is_byte 10) piece (Some end) → line ≡ lines.held.items ++ take end piece → used ≡ end + 1 → lines'.held.items ≡ [] →
     EndsSo now line old new what → TellsLine now lines lines' old new piece used what
 line_ended now lines lines' old new piece line end used what (first, at) is counted none so =

@@ -15,7 +15,7 @@ pub no_bytes : (bytes : List ℕ) → length bytes ≡ 0 → bytes ≡ []
 no_bytes [] none = refl
 no_bytes (byte ∷ bytes) none = absurd (cc)
 
-pub keeps_on : {T : Type 0} → (side : Side) (first next last : Tap T) → KeepsOther side first next → KeepsOther side next last → KeepsOther side first last
+pub keeps_on : (side : Side) (first next last : Tap) → KeepsOther side first next → KeepsOther side next last → KeepsOther side first last
 keeps_on Client first next last keeps more = λ front taken. more front (keeps front taken)
 keeps_on Server first next last keeps more = λ front taken. more front (keeps front taken)
 

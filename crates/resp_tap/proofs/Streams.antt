@@ -26,7 +26,7 @@ use Rattle.resp_tap.specs.Lines.{LineState, ReadsLine, asking, due_of, is_listen
 use Rattle.resp_tap.specs.Streams.{Arrival, Arrive, IsNoError, IsRest, NoError, Part, TellsTheConnection, WordsPart, by_side, client_bytes, command_in, command_part, commands_of, each, numbered_commands, part_of, push_in, reply_in, reply_part, server_bytes, told, words_of}
 use Rattle.resp_tap.specs.Parts.{AreKeptOf, IsKeptOf, word_lengths, words_within}
 use Rattle.resp_tap.specs.Taps.{TapState, at_front, new_tap, tap_state, with_command, with_value}
-use Rattle.resp_tap.specs.Watches.{KeepsOther, PlainTap, SeesFirst, Watches, WatchesAll}
+use Rattle.resp_tap.specs.Watches.{KeepsOther, SeesFirst, Watches, WatchesAll}
 use Rattle.resp_tap.specs.Watching.{HasTakenRequest, HasTakenValue, HearsValue, SeesRequest, SeesValue, request_rules}
 use Rattle.resp_tap.specs.declared.kind.CommandKind.{CommandKind}
 use Rattle.resp_tap.specs.declared.line.Due.{Due}
@@ -284,11 +284,11 @@ client_awaits limits most held x s t request rest bytes h same none = record {
 }
 
 -- one more result of a side, and the bytes that were read of its value that is not whole
-abbrev Next : {T : Type 0} → Side → Bounds → Option ℕ → Option ℕ → Told → Tap T → List ℕ → List ℕ → Type 0
+abbrev Next : Side → Bounds → Option ℕ → Option ℕ → Told → Tap → List ℕ → List ℕ → Type 0
 Next Client limits most held x t request rest = (request' : List ℕ) × HasTakenRequest t request' × SoFar limits most held x (tap_state t) request' rest
 Next Server limits most held x t request rest = (rest' : List ℕ) × HasTakenValue t rest' × SoFar limits most held x (tap_state t) request rest'
 
-client_tells : {T : Type 0} → VersionThreeSpellsWhatTwoDoes → (limits : Bounds) (most held : Option ℕ) (x : Told) (s : TapState) (new : Tap T) (request rest piece : List ℕ) (used : ℕ) (what : Seen) →
+client_tells : VersionThreeSpellsWhatTwoDoes → (limits : Bounds) (most held : Option ℕ) (x : Told) (s : TapState) (new : Tap) (request rest piece : List ℕ) (used : ℕ) (what : Seen) →
     SoFar limits most held x s request rest → SeesRequest s new request piece used what → IsNoError what →
     Next Client limits most held (told_more x Client (take used piece) (command_in what) (reply_in what) (push_in what)) new request rest
 client_tells three limits most held x s new request rest piece used seen.Nothing h sees fine =
@@ -439,7 +439,7 @@ found_waiting s t rest piece after found =
     ap (λ (l : LineState). l.is_lost) (sym (line_at_front rest piece s begun')) ∙ begun'
 
 -- one more value of the server, told in this way
-one_value : {T : Type 0} → VersionThreeSpellsWhatTwoDoes → (limits : Bounds) (most held : Option ℕ) (x : Told) (s : TapState) (new : Tap T) (request rest piece bytes : List ℕ)
+one_value : VersionThreeSpellsWhatTwoDoes → (limits : Bounds) (most held : Option ℕ) (x : Told) (s : TapState) (new : Tap) (request rest piece bytes : List ℕ)
     (kept : CutValue) (b : Bool) (n : Option ℕ) (replied : List (ℕ × Part)) (pushed : List Part) → SoFar limits most held x s request rest →
     (hears : HearsValue (at_front rest piece s) new (rest ++ bytes) kept b n) →
     map (reply_part most) (numbered (number_for (at_front rest piece s).line hears.whole) hears.whole) ≡ replied →
@@ -472,7 +472,7 @@ part_is limits most held x s request rest piece whole kept h is =
 pushes_of_one : (b : Bool) (v : Datum) → is_push v ≡ b → pushes_of (v ∷ []) ≡ (if b then v ∷ [] else [])
 pushes_of_one b v is = ap (λ b. if b then v ∷ [] else []) is
 
-server_tells : {T : Type 0} → VersionThreeSpellsWhatTwoDoes → (limits : Bounds) (most held : Option ℕ) (x : Told) (s : TapState) (new : Tap T) (request rest piece : List ℕ) (used : ℕ) (what : Seen) →
+server_tells : VersionThreeSpellsWhatTwoDoes → (limits : Bounds) (most held : Option ℕ) (x : Told) (s : TapState) (new : Tap) (request rest piece : List ℕ) (used : ℕ) (what : Seen) →
     SoFar limits most held x s request rest → SeesValue (at_front rest piece s) new rest piece used what → IsNoError what →
     Next Server limits most held (told_more x Server (take used piece) (command_in what) (reply_in what) (push_in what)) new request rest
 server_tells three limits most held x s new request rest piece used seen.Nothing h sees fine =
@@ -510,17 +510,17 @@ server_tells three limits most held x s new request rest piece used (seen.Comman
 -- ---- a piece of either side
 
 -- the bytes that were read of the value of a side that is not whole
-abbrev Taken : {T : Type 0} → Side → Tap T → List ℕ → Type 0
+abbrev Taken : Side → Tap → List ℕ → Type 0
 Taken Client t own = HasTakenRequest t own
 Taken Server t own = HasTakenValue t own
 
 -- what was told, where these bytes were read of a value of the other side that is not whole
-record Tells {T : Type 0} (side : Side) (limits : Bounds) (most held : Option ℕ) (x : Told) (t : Tap T) (other : List ℕ) : Type 0 where
+record Tells (side : Side) (limits : Bounds) (most held : Option ℕ) (x : Told) (t : Tap) (other : List ℕ) : Type 0 where
   own : List ℕ
   taken : Taken side t own
   so_far : SoFar limits most held x (tap_state t) (by_side side own other) (by_side side other own)
 
-result_tells : {T : Type 0} → VersionThreeSpellsWhatTwoDoes → (side : Side) (limits : Bounds) (most held : Option ℕ) (x : Told) (now : Option Moment) (old new : Tap T) (piece : List ℕ) (used : ℕ) (what : Seen)
+result_tells : VersionThreeSpellsWhatTwoDoes → (side : Side) (limits : Bounds) (most held : Option ℕ) (x : Told) (now : Option Moment) (old new : Tap) (piece : List ℕ) (used : ℕ) (what : Seen)
     (other : List ℕ) → Tells side limits most held x old other → SeesFirst side now old new piece used what → IsNoError what →
     Tells side limits most held (told_more x side (take used piece) (command_in what) (reply_in what) (push_in what)) new other
 result_tells laws Client limits most held x now old new piece used what other h sees fine =
@@ -571,16 +571,16 @@ told_twice x side a b whole c d p q u v is =
 abbrev all_told : Told → Side → List ℕ → List Seen → Told
 all_told x side piece what = told_more x side piece (each command_in what) (each reply_in what) (each push_in what)
 
-piece_tells : {T : Type 0} → VersionThreeSpellsWhatTwoDoes → (side : Side) (limits : Bounds) (most held : Option ℕ) (printing : Printing) (now : Option Moment) (what : List Seen) (x : Told) (old new : Tap T)
+piece_tells : VersionThreeSpellsWhatTwoDoes → (side : Side) (limits : Bounds) (most held : Option ℕ) (printing : Printing) (now : Option Moment) (what : List Seen) (x : Told) (old new : Tap)
     (piece : List ℕ) (before after : Option (List ℕ)) (failures failures' : ℕ) (result : Result (Unit {0}) PrintError) (other : List ℕ) →
     Tells side limits most held x old other →
     WatchesAll (Watches printing side now) what old new piece before after failures failures' result →
     AllByRecursion IsNoError what → Tells side limits most held (all_told x side piece what) new other
-piece_tells {T} laws side limits most held printing now [] x old new piece before after failures failures' result other h watches fine =
+piece_tells laws side limits most held printing now [] x old new piece before after failures failures' result other h watches fine =
     let (none, same, _, _, _) = watches in
     subst (λ z. Tells side limits most held (told_more x side z [] [] []) new other) (sym none)
-    (subst (λ z. Tells side limits most held z new other) (sym (told_none x side)) (subst (λ (t : Tap T). Tells side limits most held x t other) (sym same) h))
-piece_tells {T} laws side limits most held printing now (first ∷ what) x old new piece before after failures failures' result other h watches fine =
+    (subst (λ z. Tells side limits most held z new other) (sym (told_none x side)) (subst (λ (t : Tap). Tells side limits most held x t other) (sym same) h))
+piece_tells laws side limits most held printing now (first ∷ what) x old new piece before after failures failures' result other h watches fine =
     let (next, watched, written, failed, later, (sees, prints), is, more) = watches in
     let used = watched.used in
     let now_told = told_more x side (take used piece) (command_in first) (reply_in first) (push_in first) in
@@ -592,14 +592,14 @@ piece_tells {T} laws side limits most held printing now (first ∷ what) x old n
 
 -- ---- the pieces of a connection
 
-record TellsBoth {T : Type 0} (limits : Bounds) (most held : Option ℕ) (x : Told) (t : Tap T) : Type 0 where
+record TellsBoth (limits : Bounds) (most held : Option ℕ) (x : Told) (t : Tap) : Type 0 where
   request : List ℕ
   rest : List ℕ
   requested : HasTakenRequest t request
   answered : HasTakenValue t rest
   so_far : SoFar limits most held x (tap_state t) request rest
 
-arrival_tells : {T : Type 0} → VersionThreeSpellsWhatTwoDoes → (side : Side) (limits : Bounds) (most held : Option ℕ) (printing : Printing) (now : Option Moment) (what : List Seen) (x : Told) (old new : Tap T)
+arrival_tells : VersionThreeSpellsWhatTwoDoes → (side : Side) (limits : Bounds) (most held : Option ℕ) (printing : Printing) (now : Option Moment) (what : List Seen) (x : Told) (old new : Tap)
     (piece : List ℕ) (before after : Option (List ℕ)) (failures failures' : ℕ) (result : Result (Unit {0}) PrintError) → TellsBoth limits most held x old →
     WatchesAll (Watches printing side now) what old new piece before after failures failures' result →
     KeepsOther side old new →
@@ -634,10 +634,10 @@ with_first x a arrivals = λ i. record {
   pushes = append_assoc x.pushes (each push_in a.told) (told push_in arrivals) i;
 }
 
-arrivals_tell : VersionThreeSpellsWhatTwoDoes → (limits : Bounds) (most held : Option ℕ) (arrivals : List Arrival) (x : Told) (old new : PlainTap) → TellsBoth limits most held x old → Arrive old new arrivals → NoError arrivals →
+arrivals_tell : VersionThreeSpellsWhatTwoDoes → (limits : Bounds) (most held : Option ℕ) (arrivals : List Arrival) (x : Told) (old new : Tap) → TellsBoth limits most held x old → Arrive old new arrivals → NoError arrivals →
     TellsBoth limits most held (with_all x arrivals) new
 arrivals_tell laws limits most held [] x old new h same fine =
-    subst (λ z. TellsBoth limits most held z new) (sym (with_none x)) (subst (λ (t : PlainTap). TellsBoth limits most held x t) (sym same) h)
+    subst (λ z. TellsBoth limits most held z new) (sym (with_none x)) (subst (λ (t : Tap). TellsBoth limits most held x t) (sym same) h)
 arrivals_tell laws limits most held (a ∷ arrivals) x old new h (next, arrives, more) fine =
     let step = arrival_tells laws a.side limits most held arrives.printing arrives.now a.told x old next a.piece arrives.before arrives.after arrives.failures
     arrives.failures' arrives.result h arrives.watched arrives.other_side fine.0 in

@@ -11,7 +11,7 @@ use Rattle.resp_tap.specs.declared.seen.Seen.{Seen}
 use Rattle.resp_tap.specs.declared.watch.Side.{Side}
 
 -- No byte of the connection was read. The lines of its client are commands, and it has no name.
-pub record IsNewConnection {T : Type 0} (limits : Bounds) (shown kept : Option ℕ) (c : ConnectionTap T) : Type 0 where
+pub record IsNewConnection (limits : Bounds) (shown kept : Option ℕ) (c : ConnectionTap) : Type 0 where
   pub nothing_passed : tap_state c.tap ≡ new_tap limits shown kept
   pub nothing_requested : HasTakenRequest c.tap []
   pub nothing_answered : HasTakenValue c.tap []
@@ -20,7 +20,7 @@ pub record IsNewConnection {T : Type 0} (limits : Bounds) (shown kept : Option �
   pub no_name : (naming_of c.name).name ≡ []
 
 -- The first result in a piece, and whether it is that of a line. By it the connection may get a name.
-pub record SeesNext {T : Type 0} (now : Option Moment) (side : Side) (old new : ConnectionTap T) (piece : List ℕ) (used : ℕ) (what : Seen)
+pub record SeesNext (now : Option Moment) (side : Side) (old new : ConnectionTap) (piece : List ℕ) (used : ℕ) (what : Seen)
     (is_line : Bool) : Type 0 where
   pub seen : SeesLined now side old.lines new.lines old.tap new.tap piece used what is_line
   pub name : naming_of new.name ≡ named_after what (naming_of old.name)

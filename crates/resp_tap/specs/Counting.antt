@@ -92,7 +92,7 @@ CountsAfter f client what heard before after at old new rows rows' =
     CountsBy (nat_lt before after) f client what heard before (before - after) at old new rows rows'
 
 abbrev pub CountedTap : Type 0
-CountedTap = KeepingTap Asks (Unit {0})
+CountedTap = KeepingTap Asks
 
 -- What was heard by a result: its bytes, and the delay of the command that it answers.
 pub record IsHeard (side : Side) (now : Moment) (old : CountedTap) (used : ℕ) (what : Seen) (heard : Heard) : Type 0 where

@@ -18,7 +18,7 @@ cut_of where' [] = None
 cut_of where' (byte ∷ bytes) = Some (record { place = where'; bytes = length (byte ∷ bytes) })
 
 -- The incomplete command of the client: that of these bytes of a line, or that of an array.
-pub record CutsCommand {T : Type 0} (held : List ℕ) (t : Tap T) (cut : Option Cut) : Type 0 where
+pub record CutsCommand (held : List ℕ) (t : Tap) (cut : Option Cut) : Type 0 where
   pub line : (tap_state t).reads_commands ≡ true → 0 < length held →
       cut ≡ cut_of (place.Command ((tap_state t).commands + 1)) held
   pub array : (tap_state t).reads_commands ≡ true → held ≡ [] →
@@ -26,12 +26,12 @@ pub record CutsCommand {T : Type 0} (held : List ℕ) (t : Tap T) (cut : Option 
   pub unread : (tap_state t).reads_commands ≡ false → cut ≡ None
 
 -- the incomplete reply or value of the server
-pub record CutsReply {T : Type 0} (t : Tap T) (cut : Option Cut) : Type 0 where
+pub record CutsReply (t : Tap) (cut : Option Cut) : Type 0 where
   pub read : (tap_state t).reads_replies ≡ true → WhereAnswered t (λ front. cut ≡ cut_of (place_of_value (tap_state t)) front)
   pub unread : (tap_state t).reads_replies ≡ false → cut ≡ None
 
 -- what is incomplete of this side, if the client has sent these bytes of a line
-abbrev pub CutsOff : {T : Type 0} → Side → List ℕ → Tap T → Option Cut → Type 0
+abbrev pub CutsOff : Side → List ℕ → Tap → Option Cut → Type 0
 CutsOff Client held t cut = CutsCommand held t cut
 CutsOff Server held t cut = CutsReply t cut
 

@@ -21,7 +21,7 @@ use Rattle.resp_tap.specs.declared.seen.Seen.{Seen}
 use Rattle.resp_tap.specs.declared.watch.Side.{Side}
 
 abbrev pub FilteredTap : Type 0
-FilteredTap = KeepingTap Notes (Unit {0})
+FilteredTap = KeepingTap Notes
 
 -- what is kept of the command that the next reply belongs to
 abbrev pub note_of : FilteredTap → Option Note

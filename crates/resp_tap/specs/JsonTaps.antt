@@ -1,33 +1,32 @@
 -- The results that a tap reports and prints as JSON for the pieces of either side.
-use Rattle.std.specs.Prelude.{◌≡◌, ℕ, ◌+◌, Bool, List, [], min, Option, Some, Result, if◌then◌else◌}
+use Rattle.std.specs.Prelude.{◌≡◌, ℕ, ◌+◌, Bool, List, [], min, slice_get, Option, Some, Result, if◌then◌else◌}
 use Rattle.resp_value.specs.Data.{Datum}
 use Rattle.resp_print.specs.Printed.{Prints}
 use Rattle.resp_print.specs.declared.print_error.PrintError.{PrintError}
 use Rattle.resp_tap.specs.Called.{CalledAfter, IsChosenCalled, name_of_called}
 use Rattle.resp_tap.specs.Filters.{keeps}
 use Rattle.resp_tap.specs.JsonLines.{seen_json}
-use Rattle.resp_tap.specs.Keeping.{items_of, next_kept}
 use Rattle.resp_tap.specs.Connections.{SeesNext}
 use Rattle.resp_tap.specs.SeenOf.{IsKeptIn}
 use Rattle.resp_tap.specs.Taken.{KeepsTaken, left_of, taken_of}
 use Rattle.resp_tap.specs.Taps.{tap_state}
-use Rattle.resp_tap.specs.Times.{IsAskedIn, waited_of, waits_in}
+use Rattle.resp_tap.specs.Times.{IsAskedIn, next_asked, waited_of, waits_in}
 use Rattle.resp_tap.specs.Watches.{StepOn}
 use Rattle.resp_tap.specs.declared.called.Called.{Called}
 use Rattle.resp_tap.specs.declared.filter.Filter.{Filter}
 use Rattle.resp_tap.specs.declared.json_line.Facts.{Facts}
 use Rattle.resp_tap.specs.declared.connection.KeepingTap.{KeepingTap}
+use Rattle.resp_tap.specs.declared.json_tap.Calls.{Calls}
 use Rattle.resp_tap.specs.declared.moment.Moment.{Moment}
 use Rattle.resp_tap.specs.declared.seen.Seen.{Seen}
-use Rattle.resp_tap.specs.declared.taken.Taken.{Taken}
 use Rattle.resp_tap.specs.declared.watch.Side.{Side}
 
 abbrev pub JsonTap : Type 0
-JsonTap = KeepingTap Taken Called
+JsonTap = KeepingTap Calls
 
 -- what is kept of the command that the next reply belongs to
 abbrev pub called_of : JsonTap → Option Called
-called_of t = next_kept t.connection.tap
+called_of t = slice_get t.kept.calls.items (next_asked t.connection.tap)
 
 -- the line of a result, if the filter lets it through: that of this whole command or value
 abbrev pub kept_json : Filter → Facts → Bool → List ℕ → Datum → Seen → List ℕ
@@ -39,12 +38,11 @@ kept_json f facts is_chosen name whole what =
 pub record SeesJson (f : Filter) (side : Side) (now : Moment) (old new : JsonTap) (piece : List ℕ) (used : ℕ) (what : Seen)
     (is_line is_chosen : Bool) (size : ℕ) : Type 0 where
   pub seen : SeesNext (Some now) side old.connection new.connection piece used what is_line
-  pub bytes : size ≡ min (taken_of side old.kept + used) 18446744073709551615
-  pub left : taken_of side new.kept ≡ left_of what size
-  pub same_taken : KeepsTaken side old.kept new.kept
+  pub bytes : size ≡ min (taken_of side old.kept.taken + used) 18446744073709551615
+  pub left : taken_of side new.kept.taken ≡ left_of what size
+  pub same_taken : KeepsTaken side old.kept.taken new.kept.taken
   pub chosen : IsChosenCalled f (called_of old) what is_chosen
-  pub calls : CalledAfter is_chosen what (waits_in old.connection.tap) (waits_in new.connection.tap)
-      (items_of old.connection.tap) (items_of new.connection.tap)
+  pub calls : CalledAfter is_chosen what (waits_in old.connection.tap) (waits_in new.connection.tap) old.kept.calls.items new.kept.calls.items
 
 -- The line of the result is printed if the filter lets it through, as far as writes succeed. A reply has the name and the
 -- delay of its command.

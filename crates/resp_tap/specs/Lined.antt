@@ -35,13 +35,13 @@ BeginsLine [] = ⊥
 BeginsLine (byte ∷ rest) = byte ≢ 42
 
 -- The next bytes of the client belong to a line: a line has begun, or no array has begun and the next byte begins none.
-pub record IsInLine {T : Type 0} (lines : Lines) (t : Tap T) (piece : List ℕ) : Type 0 where
+pub record IsInLine (lines : Lines) (t : Tap) (piece : List ℕ) : Type 0 where
   pub on : lines.are_read ≡ true
   pub reads : (tap_state t).reads_commands ≡ true
   pub begins : (0 < length lines.held.items) ⊎ (WhereRequested t (λ front. front ≡ []) × BeginsLine piece)
 
 -- they belong to no line
-abbrev pub IsNoLine : {T : Type 0} → Lines → Tap T → List ℕ → Type 0
+abbrev pub IsNoLine : Lines → Tap → List ℕ → Type 0
 IsNoLine lines t piece = lines.are_read ≡ true → (tap_state t).reads_commands ≡ true →
     (lines.held.items ≡ []) × WhereRequested t (λ front. front ≡ [] → BeginsLine piece → ⊥)
 
@@ -68,13 +68,13 @@ WhyRefused s line cause at = ((cause ≡ causes.Length) × (65536 < length line)
     RefusesOfRequest s [] (canonical_text Two (command_of words)) used cause at)
 
 -- a line is refused, as the next command
-pub record RefusesLine {T : Type 0} (line : List ℕ) (old new : Tap T) (cause : Cause) (at : ℕ) (where' : Place) : Type 0 where
+pub record RefusesLine (line : List ℕ) (old new : Tap) (cause : Cause) (at : ℕ) (where' : Place) : Type 0 where
   pub why : WhyRefused (tap_state old) line cause at
   pub place : where' ≡ place.Command ((tap_state old).commands + 1)
   pub after : tap_state new ≡ with_refused_command (tap_state old)
 
 -- the words of a line are the next command, of which this is kept
-pub record GivesLine {T : Type 0} (now : Option Moment) (line : List ℕ) (old new : Tap T) (number : ℕ) (words : List (List ℕ))
+pub record GivesLine (now : Option Moment) (line : List ℕ) (old new : Tap) (number : ℕ) (words : List (List ℕ))
     (lengths : List ℕ) : Type 0 where
   pub whole : List (List ℕ)
   pub some : 0 < length whole
@@ -86,7 +86,7 @@ pub record GivesLine {T : Type 0} (now : Option Moment) (line : List ℕ) (old n
   pub times : KeepsTimes now old new
 
 -- what is told at the end of a line
-abbrev pub EndsSo : {T : Type 0} → Option Moment → List ℕ → Tap T → Tap T → Seen → Type 0
+abbrev pub EndsSo : Option Moment → List ℕ → Tap → Tap → Seen → Type 0
 EndsSo now line old new seen.Passed = AreWords [] line × (new ≡ old)
 EndsSo now line old new (seen.Command number words lengths) = GivesLine now line old new number words lengths.items
 EndsSo now line old new (seen.Refused cause at where') = RefusesLine line old new cause at where'
@@ -95,7 +95,7 @@ EndsSo now line old new _ = ⊥
 -- ---- the bytes of a line
 
 -- the whole piece belongs to a line that does not end in it
-pub record HoldsLine {T : Type 0} (lines lines' : Lines) (old new : Tap T) (piece : List ℕ) (used : ℕ) : Type 0 where
+pub record HoldsLine (lines lines' : Lines) (old new : Tap) (piece : List ℕ) (used : ℕ) : Type 0 where
   pub whole_piece : used ≡ length piece
   pub no_end : AllByRecursion (λ b. b ≢ 10) piece
   pub held : lines'.held.items ≡ lines.held.items ++ piece
@@ -103,7 +103,7 @@ pub record HoldsLine {T : Type 0} (lines lines' : Lines) (old new : Tap T) (piec
   pub same : new ≡ old
 
 -- A line ends in the piece, and this is told of it; or it is refused in the piece.
-pub record EndsLine {T : Type 0} (now : Option Moment) (lines lines' : Lines) (old new : Tap T) (piece : List ℕ) (used : ℕ) (what : Seen) :
+pub record EndsLine (now : Option Moment) (lines lines' : Lines) (old new : Tap) (piece : List ℕ) (used : ℕ) (what : Seen) :
     Type 0 where
   pub last : List ℕ
   pub rest : List ℕ
@@ -114,26 +114,26 @@ pub record EndsLine {T : Type 0} (now : Option Moment) (lines lines' : Lines) (o
       (rest ≡ 10 ∷ drop used piece) × (used ≡ length last + 1) × (lines'.held.items ≡ [])
 
 -- the result for bytes of a line
-abbrev pub TellsLine : {T : Type 0} → Option Moment → Lines → Lines → Tap T → Tap T → List ℕ → ℕ → Seen → Type 0
+abbrev pub TellsLine : Option Moment → Lines → Lines → Tap → Tap → List ℕ → ℕ → Seen → Type 0
 TellsLine now lines lines' old new piece used seen.Nothing = HoldsLine lines lines' old new piece used
 TellsLine now lines lines' old new piece used what = EndsLine now lines lines' old new piece used what
 
 -- The bytes belong to a line. Before it the tap has read no part of an array.
-pub record SeesLine {T : Type 0} (now : Option Moment) (side : Side) (lines lines' : Lines) (old new : Tap T) (piece : List ℕ) (used : ℕ)
+pub record SeesLine (now : Option Moment) (side : Side) (lines lines' : Lines) (old new : Tap) (piece : List ℕ) (used : ℕ)
     (what : Seen) : Type 0 where
   pub client : side ≡ Client
   pub belong : IsInLine lines old piece
   pub told : HasTakenRequest old [] → TellsLine now lines lines' old new piece used what
 
 -- the bytes belong to no line
-pub record SeesNoLine {T : Type 0} (now : Option Moment) (side : Side) (lines lines' : Lines) (old new : Tap T) (piece : List ℕ)
+pub record SeesNoLine (now : Option Moment) (side : Side) (lines lines' : Lines) (old new : Tap) (piece : List ℕ)
     (used : ℕ) (what : Seen) : Type 0 where
   pub first : SeesFirst side now old new piece used what
   pub same_lines : lines' ≡ lines
   pub no_line : side ≡ Client → IsNoLine lines old piece
 
 -- the first result in a piece, and whether it is that of a line
-abbrev pub SeesLined : {T : Type 0} → Option Moment → Side → Lines → Lines → Tap T → Tap T → List ℕ → ℕ → Seen → Bool → Type 0
+abbrev pub SeesLined : Option Moment → Side → Lines → Lines → Tap → Tap → List ℕ → ℕ → Seen → Bool → Type 0
 SeesLined now side lines lines' old new piece used what is_line =
     MatchBool is_line (SeesLine now side lines lines' old new piece used what)
     (SeesNoLine now side lines lines' old new piece used what)

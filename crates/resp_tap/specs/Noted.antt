@@ -2,7 +2,7 @@
 use Rattle.std.specs.Prelude.{◌≡◌, ℕ, ◌-◌, ◌≤◌, Bool, true, false, ◌&&◌, List, [], ◌++◌, length, take, nat_lt, Option, None, Some, option_and_then, option_map, if◌then◌else◌, codes}
 use Rattle.resp_value.specs.Data.{Datum}
 use Rattle.resp_tap.specs.Filters.{is_by_reply, is_selective, keeps, keeps_all}
-use Rattle.resp_tap.specs.Keeping.{IsChosenBy, KeptBy, MayBeAdded}
+use Rattle.resp_tap.specs.Keeping.{IsAdded, IsChosenBy, KeptBy}
 use Rattle.resp_tap.specs.Secrets.{printed_words}
 use Rattle.resp_tap.specs.Texts.{heading, seen_text, words_text}
 use Rattle.resp_tap.specs.declared.filter.Filter.{Filter}
@@ -44,7 +44,7 @@ pub record IsNote (p : TextOptions) (now : Option Moment) (is_line is_chosen : B
 -- the next command that waits was added, with as much of its words as there is room for
 abbrev pub IsNoted : Filter → TextOptions → Option Moment → Bool → Bool → List (List ℕ) → List Note → List Note → Type 0
 IsNoted f p now is_line is_chosen words old new =
-    MayBeAdded (IsNote p now is_line is_chosen words (room_for f is_chosen (length old))) old new
+    IsAdded (IsNote p now is_line is_chosen words (room_for f is_chosen (length old))) old new
 
 -- The items after a result, if this many commands waited before it and after it: the item of a new command is added,
 -- and the items of commands that wait no more are dropped.

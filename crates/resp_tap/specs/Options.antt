@@ -4,7 +4,7 @@ use Rattle.resp_tap.specs.declared.print.TextOptions.{TextOptions}
 use Rattle.resp_tap.specs.declared.tap.Tap.{Tap}
 
 -- as the caller asks for, with the bytes of each text that the tap shows, and those of each word that it keeps
-abbrev pub options_of : {T : Type 0} → Printing → Tap T → TextOptions
+abbrev pub options_of : Printing → Tap → TextOptions
 options_of printing t = record {
   client = printing.client;
   shows_passwords = printing.shows_passwords;

@@ -15,7 +15,7 @@ use Rattle.resp_tap.specs.Kinds.{command_kind}
 use Rattle.resp_tap.specs.Lines.{LineState, ReadsLine, asking, next_version, paired}
 use Rattle.resp_tap.specs.Parts.{cut_within, lengths_within, word_lengths, words_within}
 use Rattle.resp_tap.specs.Taps.{new_tap, tap_state}
-use Rattle.resp_tap.specs.Watches.{KeepsOther, PlainTap, Watches, WatchesAll}
+use Rattle.resp_tap.specs.Watches.{KeepsOther, Watches, WatchesAll}
 use Rattle.resp_tap.specs.Watching.{HasTakenRequest, HasTakenValue, request_rules}
 use Rattle.resp_tap.specs.declared.kind.CommandKind.{CommandKind}
 use Rattle.resp_tap.specs.declared.kind.CommandKind.TheVariants.{Plain, Hello, Reset}
@@ -23,6 +23,7 @@ use Rattle.resp_tap.specs.declared.moment.Moment.{Moment}
 use Rattle.resp_tap.specs.declared.print.Printing.{Printing}
 use Rattle.resp_tap.specs.declared.seen.Seen.{Seen}
 use Rattle.resp_tap.specs.declared.seen.Seen.TheVariants as seen
+use Rattle.resp_tap.specs.declared.tap.Tap.{Tap}
 use Rattle.resp_tap.specs.declared.watch.Side.{Side}
 use Rattle.resp_tap.specs.declared.watch.Side.TheVariants.{Client, Server}
 
@@ -33,7 +34,7 @@ pub record Arrival : Type 0 where
   pub told : List Seen
 
 -- the piece arrived: these are its results, as `watch` tells them
-pub record Arrives (old new : PlainTap) (a : Arrival) : Type 0 where
+pub record Arrives (old new : Tap) (a : Arrival) : Type 0 where
   pub printing : Printing
   pub now : Option Moment
   pub before : Option (List ℕ)
@@ -45,9 +46,9 @@ pub record Arrives (old new : PlainTap) (a : Arrival) : Type 0 where
   pub other_side : KeepsOther a.side old new
 
 -- these pieces arrived, one after another
-abbrev pub Arrive : PlainTap → PlainTap → List Arrival → Type 0
+abbrev pub Arrive : Tap → Tap → List Arrival → Type 0
 Arrive old new [] = new ≡ old
-Arrive old new (a ∷ arrivals) = (next : PlainTap) × Arrives old next a × Arrive next new arrivals
+Arrive old new (a ∷ arrivals) = (next : Tap) × Arrives old next a × Arrive next new arrivals
 
 -- the first of two lists for the client, and the second for the server
 abbrev pub by_side : {X : Type 0} → Side → X → X → X
@@ -162,7 +163,7 @@ pub record TellsReplies (limits : Bounds) (most : Option ℕ) (arrivals : List A
 -- Of a new connection: if no error was told, the commands are told. If no value has arrived that no command asked for,
 -- the replies are told too.
 abbrev pub TellsTheConnection : Type 0
-TellsTheConnection = (limits : Bounds) (most kept : Option ℕ) (old new : PlainTap) (arrivals : List Arrival) →
+TellsTheConnection = (limits : Bounds) (most kept : Option ℕ) (old new : Tap) (arrivals : List Arrival) →
     tap_state old ≡ new_tap limits most kept →
     HasTakenRequest old [] → HasTakenValue old [] → Arrive old new arrivals → NoError arrivals →
     (commands : TellsCommands limits kept arrivals) ×

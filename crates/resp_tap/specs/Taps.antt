@@ -27,7 +27,7 @@ pub record TapState : Type 0 where
   -- whether the server's bytes are still read
   pub reads_replies : Bool
 
-abbrev pub tap_state : {T : Type 0} → Tap T → TapState
+abbrev pub tap_state : Tap → TapState
 tap_state t = record {
   limits = t.limits;
   shown = t.values.shown.most;

@@ -1,36 +1,34 @@
 -- The times of the commands that wait.
-use Rattle.std.specs.Prelude.{◌≡◌, ℕ, ◌-◌, List, length, map, slice_get, Option, None, Some, option_and_then, option_map}
+use Rattle.std.specs.Prelude.{◌≡◌, ℕ, ◌-◌, List, length, slice_get, Option, None, Some, option_and_then, option_map}
 use Rattle.resp_tap.specs.Lines.{asked_at}
-use Rattle.resp_tap.specs.LinesOf.{MayAdd, kept_after, kept_in}
+use Rattle.resp_tap.specs.LinesOf.{kept_after, kept_in}
 use Rattle.resp_tap.specs.Taps.{tap_state}
-use Rattle.resp_tap.specs.declared.line.Line.{Line}
 use Rattle.resp_tap.specs.declared.moment.Moment.{Moment}
 use Rattle.resp_tap.specs.declared.stamp.Stamp.{Stamp}
 use Rattle.resp_tap.specs.declared.seen.Seen.{Seen}
 use Rattle.resp_tap.specs.declared.seen.Seen.TheVariants as seen
 use Rattle.resp_tap.specs.declared.tap.Tap.{Tap}
-use Rattle.resp_tap.specs.declared.waiting.Timed.{Timed}
 use Rattle.resp_tap.specs.declared.waiting.Waiting.{Waiting}
 
 -- the number of commands that wait
-abbrev pub waits_in : {T : Type 0} → Tap T → ℕ
+abbrev pub waits_in : Tap → ℕ
 waits_in t = length (tap_state t).line.due
 
 -- The times of the commands that wait, in the order of the commands. The time of a command is known if a moment was given
 -- with its last bytes.
-abbrev pub times_of : {T : Type 0} → Tap T → List (Option ℕ)
-times_of {T} t = map (λ (kept : Timed T). kept.time) (kept_in t.line.pending.items)
+abbrev pub times_of : Tap → List (Option ℕ)
+times_of t = kept_in t.line.pending.items
 
 -- the index of the command that the next reply belongs to
-abbrev pub next_asked : {T : Type 0} → Tap T → ℕ
+abbrev pub next_asked : Tap → ℕ
 next_asked t = asked_at (tap_state t).line.due
 
 -- this is the time of the command that the next reply belongs to, if a command waits and its time is known
-abbrev pub IsAskedIn : {T : Type 0} → Tap T → Option ℕ → Type 0
+abbrev pub IsAskedIn : Tap → Option ℕ → Type 0
 IsAskedIn t asked = asked ≡ option_and_then (λ time. time) (slice_get (times_of t) (next_asked t))
 
 -- these commands wait
-pub record AreWaiting {T : Type 0} (t : Tap T) (waiting : Waiting) : Type 0 where
+pub record AreWaiting (t : Tap) (waiting : Waiting) : Type 0 where
   pub number : waiting.count ≡ waits_in t
   pub index : waiting.next ≡ next_asked t
   pub time : IsAskedIn t waiting.asked
@@ -41,7 +39,7 @@ steady_of = option_map (λ (now : Moment). now.steady)
 
 -- The times of the commands that wait are kept: the time of a new command is added, and those of commands that wait no
 -- more are removed.
-abbrev pub KeepsTimes : {T : Type 0} → Option Moment → Tap T → Tap T → Type 0
+abbrev pub KeepsTimes : Option Moment → Tap → Tap → Type 0
 KeepsTimes now old new = times_of new ≡ kept_after (steady_of now) (waits_in old) (waits_in new) (times_of old)
 
 -- how long the command with this time waited, if this is its reply
@@ -53,7 +51,3 @@ waited_of now _ _ = None
 abbrev pub stamp_of : Option Moment → Option ℕ → Seen → Option Stamp
 stamp_of now asked what =
     option_map (λ (now : Moment). record { utc = now.utc; waited = waited_of now asked what }) now
-
--- no command was added to a line, or one that arrived at this time
-abbrev pub MayAddTimed : {T : Type 0} → Option ℕ → Line (Timed T) → Line (Timed T) → Type 0
-MayAddTimed {T} time old new = (kept : T) × MayAdd (record { time = time; kept = kept }) old new

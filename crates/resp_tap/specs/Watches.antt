@@ -20,22 +20,22 @@ use Rattle.resp_tap.specs.declared.watch.Side.TheVariants.{Client, Server}
 use Rattle.resp_tap.specs.declared.watch.Watched.{Watched}
 
 -- the bytes read of the other side's value stay the same
-abbrev pub KeepsOther : {T : Type 0} → Side → Tap T → Tap T → Type 0
+abbrev pub KeepsOther : Side → Tap → Tap → Type 0
 KeepsOther Client old new = KeepsValue old new
 KeepsOther Server old new = KeepsRequest old new
 
 -- until the first error of this side, some bytes were read of its incomplete value
-abbrev pub HasSentSome : {T : Type 0} → Side → Tap T → Type 0
+abbrev pub HasSentSome : Side → Tap → Type 0
 HasSentSome Client t = HasTakenSomeRequest t
 HasSentSome Server t = HasTakenSomeValue t
 
 -- P holds of all bytes that were read of this side's incomplete value
-abbrev pub WhereSent : {T : Type 0} → Side → Tap T → (List ℕ → Type 0) → Type 0
+abbrev pub WhereSent : Side → Tap → (List ℕ → Type 0) → Type 0
 WhereSent Client t P = WhereRequested t P
 WhereSent Server t P = WhereAnswered t P
 
 -- the result for the bytes of this side
-abbrev pub SeesSent : {T : Type 0} → Side → TapState → Tap T → List ℕ → List ℕ → ℕ → Seen → Type 0
+abbrev pub SeesSent : Side → TapState → Tap → List ℕ → List ℕ → ℕ → Seen → Type 0
 SeesSent Client s new front piece used seen = SeesRequest s new front piece used seen
 SeesSent Server s new front piece used seen = SeesValue (at_front front piece s) new front piece used seen
 
@@ -45,7 +45,7 @@ is_read_of Client s = s.reads_commands
 is_read_of Server s = s.reads_replies
 
 -- The first result in a piece that arrived at this moment, and the number of bytes that were read for it.
-pub record SeesFirst {T : Type 0} (side : Side) (now : Option Moment) (old new : Tap T) (piece : List ℕ) (used : ℕ)
+pub record SeesFirst (side : Side) (now : Option Moment) (old new : Tap) (piece : List ℕ) (used : ℕ)
     (what : Seen) : Type 0 where
   pub some : HasSentSome side old
   pub read : is_read_of side (tap_state old) ≡ true → WhereSent side old (λ front.
@@ -54,7 +54,7 @@ pub record SeesFirst {T : Type 0} (side : Side) (now : Option Moment) (old new :
 
 -- The text of the result is printed, as far as writes succeed: that of the whole command or of the whole value, of which
 -- only a part is kept. If times are printed, the text of a reply has the time of the command that it answers.
-pub record PrintsSeen {T : Type 0} (printing : Printing) (now : Option Moment) (old : Tap T) (what : Seen) (before after : Option (List ℕ))
+pub record PrintsSeen (printing : Printing) (now : Option Moment) (old : Tap) (what : Seen) (before after : Option (List ℕ))
     (failures failures' : ℕ) (printed : Result (Unit {0}) PrintError) : Type 0 where
   pub asked : Option ℕ
   pub of_command : IsAskedIn old asked
@@ -80,12 +80,8 @@ WatchesAll {S} Step (what ∷ more) old new piece before after failures failures
     (told ≡ result_and watched.printed later) ×
     WatchesAll Step more next new (drop watched.used piece) written after failed failures' later
 
--- a tap that keeps nothing of a command but its time
-abbrev pub PlainTap : Type 0
-PlainTap = Tap (Unit {0})
-
 -- the first result in a piece is read and printed
-abbrev pub Watches : {T : Type 0} → Printing → Side → Option Moment → StepOn (Tap T)
+abbrev pub Watches : Printing → Side → Option Moment → StepOn Tap
 Watches printing side now old new piece watched what before after failures failures' =
     SeesFirst side now old new piece watched.used what ×
     PrintsSeen printing now old what before after failures failures' watched.printed

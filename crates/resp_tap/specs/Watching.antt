@@ -37,40 +37,40 @@ value_rules s = rules_under s.reading s.limits
 
 -- The bytes that a tap has read of the client's incomplete value. Callers do not need the definition: `new` establishes
 -- this relation and the next one, and each call preserves them until the first error.
-abbrev pub HasTakenRequest : {T : Type 0} → Tap T → List ℕ → Type 0
+abbrev pub HasTakenRequest : Tap → List ℕ → Type 0
 HasTakenRequest t front = HasSent t.requests front
 
 -- the bytes that a tap has read of the server's incomplete value
-abbrev pub HasTakenValue : {T : Type 0} → Tap T → List ℕ → Type 0
+abbrev pub HasTakenValue : Tap → List ℕ → Type 0
 HasTakenValue t front = HasSent t.values front
 
 -- Until the first error of the client, a tap has read some bytes of the client's incomplete value.
-abbrev pub HasTakenSomeRequest : {T : Type 0} → Tap T → Type 0
+abbrev pub HasTakenSomeRequest : Tap → Type 0
 HasTakenSomeRequest t = (tap_state t).reads_commands ≡ true → ∥ ((front : List ℕ) × HasTakenRequest t front) ∥₁
 
 -- until the first error of the server, it has read some bytes of the server's incomplete value
-abbrev pub HasTakenSomeValue : {T : Type 0} → Tap T → Type 0
+abbrev pub HasTakenSomeValue : Tap → Type 0
 HasTakenSomeValue t = (tap_state t).reads_replies ≡ true → ∥ ((front : List ℕ) × HasTakenValue t front) ∥₁
 
 -- P holds of all bytes that were read of the client's incomplete value
-abbrev pub WhereRequested : {T : Type 0} → Tap T → (List ℕ → Type 0) → Type 0
+abbrev pub WhereRequested : Tap → (List ℕ → Type 0) → Type 0
 WhereRequested t P = (front : List ℕ) → HasTakenRequest t front → P front
 
 -- P holds of all bytes that were read of the server's incomplete value
-abbrev pub WhereAnswered : {T : Type 0} → Tap T → (List ℕ → Type 0) → Type 0
+abbrev pub WhereAnswered : Tap → (List ℕ → Type 0) → Type 0
 WhereAnswered t P = (front : List ℕ) → HasTakenValue t front → P front
 
 -- the bytes read of the client's value stay the same
-abbrev pub KeepsRequest : {T : Type 0} → Tap T → Tap T → Type 0
+abbrev pub KeepsRequest : Tap → Tap → Type 0
 KeepsRequest old new = (front : List ℕ) → HasTakenRequest old front → HasTakenRequest new front
 
 -- the bytes read of the server's value stay the same
-abbrev pub KeepsValue : {T : Type 0} → Tap T → Tap T → Type 0
+abbrev pub KeepsValue : Tap → Tap → Type 0
 KeepsValue old new = (front : List ℕ) → HasTakenValue old front → HasTakenValue new front
 
 -- The client's text is the next command, of whose words this is kept. The first word is its name, and how the command is
 -- answered follows from the whole words.
-pub record GivesCommand {T : Type 0} (s : TapState) (new : Tap T) (written : List ℕ) (number : ℕ) (words : List (List ℕ))
+pub record GivesCommand (s : TapState) (new : Tap) (written : List ℕ) (number : ℕ) (words : List (List ℕ))
     (lengths : List ℕ) : Type 0 where
   pub whole : List (List ℕ)
   pub some : 0 < length whole
@@ -83,7 +83,7 @@ pub record GivesCommand {T : Type 0} (s : TapState) (new : Tap T) (written : Lis
   pub takes : HasTakenRequest new []
 
 -- the client's text is an empty array or a null, which is ignored
-pub record GivesNothing {T : Type 0} (s : TapState) (new : Tap T) (written : List ℕ) : Type 0 where
+pub record GivesNothing (s : TapState) (new : Tap) (written : List ℕ) : Type 0 where
   pub value : Datum
   pub spelled : IsSpelling (request_rules s.limits) value written
   pub means : meaning_of value ≡ Nothing
@@ -91,7 +91,7 @@ pub record GivesNothing {T : Type 0} (s : TapState) (new : Tap T) (written : Lis
   pub takes : HasTakenRequest new []
 
 -- the client's text is a value that is not a command
-pub record GivesNoCommand {T : Type 0} (s : TapState) (new : Tap T) (written : List ℕ) (number : ℕ) : Type 0 where
+pub record GivesNoCommand (s : TapState) (new : Tap) (written : List ℕ) (number : ℕ) : Type 0 where
   pub value : Datum
   pub spelled : IsSpelling (request_rules s.limits) value written
   pub means : meaning_of value ≡ NoCommand
@@ -99,7 +99,7 @@ pub record GivesNoCommand {T : Type 0} (s : TapState) (new : Tap T) (written : L
   pub after : tap_state new ≡ with_refused_command s
 
 -- the whole piece was read: the client's value is incomplete, and a valid value can begin with its bytes
-pub record AwaitsRequest {T : Type 0} (s : TapState) (new : Tap T) (written piece : List ℕ) (used : ℕ) : Type 0 where
+pub record AwaitsRequest (s : TapState) (new : Tap) (written piece : List ℕ) (used : ℕ) : Type 0 where
   pub whole_piece : used ≡ length piece
   pub no_value : HasNoValue written
   pub viable : IsViable (request_rules s.limits) WithinTotal written
@@ -130,14 +130,14 @@ RefusesOfRequest s front piece used cause at =
     (LeavesOut s (front ++ take used piece) cause × (at ≡ 0))
 
 -- the client's bytes are rejected, as part of the next command
-pub record RefusesRequestAt {T : Type 0} (s : TapState) (new : Tap T) (front piece : List ℕ) (used : ℕ) (cause : Cause) (at : ℕ)
+pub record RefusesRequestAt (s : TapState) (new : Tap) (front piece : List ℕ) (used : ℕ) (cause : Cause) (at : ℕ)
     (where' : Place) : Type 0 where
   pub refused : RefusesOfRequest s front piece used cause at
   pub place : where' ≡ place.Command (s.commands + 1)
   pub after : tap_state new ≡ with_refused_command s
 
 -- the result for the bytes of the client
-abbrev pub SeesRequest : {T : Type 0} → TapState → Tap T → List ℕ → List ℕ → ℕ → Seen → Type 0
+abbrev pub SeesRequest : TapState → Tap → List ℕ → List ℕ → ℕ → Seen → Type 0
 SeesRequest s new front piece used seen.Nothing = AwaitsRequest s new (front ++ piece) piece used
 SeesRequest s new front piece used seen.Passed = GivesNothing s new (front ++ take used piece)
 SeesRequest s new front piece used (seen.Command number words lengths) =
@@ -149,7 +149,7 @@ SeesRequest s new front piece used _ = ⊥
 
 -- The server's text is a value, of which this is kept. It is a push or not, belongs to the command with this number if
 -- there is one, and changes the line.
-pub record HearsValue {T : Type 0} (s : TapState) (new : Tap T) (written : List ℕ) (kept : CutValue) (push : Bool) (number : Option ℕ) :
+pub record HearsValue (s : TapState) (new : Tap) (written : List ℕ) (kept : CutValue) (push : Bool) (number : Option ℕ) :
     Type 0 where
   pub whole : Datum
   pub spelled : IsSpelling (value_rules s) whole written
@@ -160,7 +160,7 @@ pub record HearsValue {T : Type 0} (s : TapState) (new : Tap T) (written : List 
   pub takes : HasTakenValue new []
 
 -- the whole piece was read: the server's value is incomplete, and a valid value can begin with its bytes
-pub record AwaitsValue {T : Type 0} (s : TapState) (new : Tap T) (written piece : List ℕ) (used : ℕ) : Type 0 where
+pub record AwaitsValue (s : TapState) (new : Tap) (written piece : List ℕ) (used : ℕ) : Type 0 where
   pub whole_piece : used ≡ length piece
   pub no_value : HasNoValue written
   pub viable : IsViable (value_rules s) WithinTotal written
@@ -189,14 +189,14 @@ abbrev pub place_of_value : TapState → Place
 place_of_value s = place_on s.line
 
 -- the server's bytes are rejected
-pub record RefusesValueAt {T : Type 0} (s : TapState) (new : Tap T) (front piece : List ℕ) (cause : Cause) (at : ℕ) (where' : Place) :
+pub record RefusesValueAt (s : TapState) (new : Tap) (front piece : List ℕ) (cause : Cause) (at : ℕ) (where' : Place) :
     Type 0 where
   pub refused : RefusesOfValue s front piece (record { cause = cause; at = at })
   pub place : where' ≡ place_of_value s
   pub after : tap_state new ≡ with_refused_reply s
 
 -- the result for the bytes of the server, if this state holds before the value's next byte
-abbrev pub SeesValue : {T : Type 0} → TapState → Tap T → List ℕ → List ℕ → ℕ → Seen → Type 0
+abbrev pub SeesValue : TapState → Tap → List ℕ → List ℕ → ℕ → Seen → Type 0
 SeesValue s new front piece used seen.Nothing = AwaitsValue s new (front ++ piece) piece used
 SeesValue s new front piece used (seen.Reply number kept) =
     HearsValue s new (front ++ take used piece) kept false (Some number)

@@ -14,19 +14,10 @@ const MOST: usize = 32;
 
 /// The printed name of a command: the first 32 bytes of its first word, with letters in upper case.
 #[derive(Drop)]
-pub struct Called {
+pub(crate) struct Called {
     pub(crate) name: ArrayVec<u8, MOST>,
     /// Whether the filter lets the command through by its words.
     pub(crate) is_chosen: bool,
-}
-
-impl Default for Called {
-    fn default() -> Called {
-        Called {
-            name: ArrayVec::new(),
-            is_chosen: false,
-        }
-    }
 }
 
 /// Returns the first 32 bytes of a word, with letters in upper case.

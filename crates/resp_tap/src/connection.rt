@@ -1,9 +1,8 @@
 //! The tap of a connection whose client may send commands as lines, and may name the connection.
 
-ghost use Rattle.std.specs.Prelude.{◌≡◌, ◌<◌, ◌≤◌, List, [], ◌∷◌, ◌++◌, length};
+ghost use Rattle.std.specs.Prelude.{◌≡◌, ◌<◌, ◌≤◌, length};
 ghost use Rattle.resp_tap.specs.Connections.{IsNewConnection, SeesNext};
 ghost use Rattle.resp_tap.specs.Ends.{CutsOff};
-ghost use Rattle.resp_tap.specs.Keeping.{KeepsItems, SameButKept, items_of};
 ghost use Rattle.resp_tap.specs.Parts.{IsEnough};
 ghost use Rattle.resp_tap.specs.Times.{AreWaiting, waits_in};
 ghost use Rattle.resp_tap.specs.Watches.{KeepsOther};
@@ -35,14 +34,14 @@ pub(crate) struct Next {
 
 /// The tap of a connection whose client may send commands as lines, and may name the connection.
 #[derive(Drop)]
-pub struct ConnectionTap<T> {
-    pub(crate) tap: Tap<T>,
+pub struct ConnectionTap {
+    pub(crate) tap: Tap,
     /// The lines among the bytes of the client.
     pub(crate) lines: Lines,
     pub(crate) name: ClientName,
 }
 
-impl<T: Default + Drop> ConnectionTap<T> {
+impl ConnectionTap {
     /// Returns the tap of a new connection, which is read within these limits. It keeps one byte more
     /// than `shown` of each text of the server, and one byte more than `kept` of each word of the
     /// client. A line of the client is a command too. It allocates nothing.
@@ -51,10 +50,9 @@ impl<T: Default + Drop> ConnectionTap<T> {
         limits: &Limits,
         shown: ShownPart,
         kept: ShownPart,
-    ) -> ConnectionTap<T>
+    ) -> ConnectionTap
         requires { IsEnough shown.most kept.most }
-        ensures new_connection { IsNewConnection limits.now shown.most kept.most result }
-        ensures nothing_kept { items_of result.tap ≡ [] }
+        ensures { IsNewConnection limits.now shown.most kept.most result }
     {
         ConnectionTap {
             tap: Tap::keeping(alloc, limits, shown, kept),
@@ -64,7 +62,7 @@ impl<T: Default + Drop> ConnectionTap<T> {
     }
 
     /// Returns the tap of the commands and replies.
-    pub fn tap(&self) -> &Tap<T>
+    pub fn tap(&self) -> &Tap
         ensures { result.now ≡ self.now.tap }
     {
         &self.tap
@@ -97,7 +95,6 @@ impl<T: Default + Drop> ConnectionTap<T> {
     pub(crate) fn step(&mut self, side: Side, piece: &[u8], now: Option<Moment>) -> Next
         ensures sees { SeesNext now side self.old self.new piece.now result.step.used
             result.step.seen result.is_line }
-        ensures items { KeepsItems result.step.seen self.old.tap self.new.tap }
         ensures waited { AreWaiting self.old.tap result.waiting }
         ensures left { result.left ≡ waits_in self.new.tap }
         ensures other_side { KeepsOther side self.old.tap self.new.tap }
@@ -114,30 +111,21 @@ impl<T: Default + Drop> ConnectionTap<T> {
             left: self.tap.waiting(),
         }
     }
-
-    /// Keeps this of the last command that waits.
-    pub(crate) fn keep(&mut self, kept: T)
-        ensures kept { (older : List T) (last : T) → items_of self.old.tap ≡ older ++ last ∷ [] →
-            items_of self.new.tap ≡ older ++ kept ∷ [] }
-        ensures same { SameButKept self.old self.new }
-    {
-        self.tap.keep(kept);
-    }
 }
 
 /// A tap of a connection that prints or counts the commands and replies that its filter lets through.
 /// It keeps something for each command that waits.
 #[derive(Drop)]
-pub struct KeepingTap<K, T> {
-    pub(crate) connection: ConnectionTap<T>,
+pub struct KeepingTap<K> {
+    pub(crate) connection: ConnectionTap,
     /// Decides which commands, replies and other results are printed or counted.
     pub(crate) filter: Filter,
     pub(crate) kept: K,
 }
 
-impl<K, T> KeepingTap<K, T> {
+impl<K> KeepingTap<K> {
     /// Returns the tap of the connection.
-    pub fn connection(&self) -> &ConnectionTap<T>
+    pub fn connection(&self) -> &ConnectionTap
         ensures { result.now ≡ self.now.connection }
     {
         &self.connection
@@ -145,7 +133,7 @@ impl<K, T> KeepingTap<K, T> {
 
     /// Returns the tap of a new connection. `are_read` says whether lines are commands. If they are
     /// not, a byte that does not begin an array is an error.
-    pub fn with_lines(mut self, are_read: bool) -> KeepingTap<K, T>
+    pub fn with_lines(mut self, are_read: bool) -> KeepingTap<K>
         ensures lines { result.connection.lines ≡ record self.connection.lines { are_read = are_read } }
         ensures same { result ≡ record self {
           connection =

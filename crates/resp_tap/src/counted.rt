@@ -87,7 +87,7 @@ fn answer(counts: &mut Counts, filter: &Filter, asked: Option<Asked>, heard: Hea
 ///
 /// If an allocation fails, neither the command nor the commands that follow while it waits are
 /// counted.
-pub type CountedTap = KeepingTap<Asks, ()>;
+pub type CountedTap = KeepingTap<Asks>;
 
 /// The commands that wait to be counted, and the bytes of incomplete ones.
 #[derive(Drop)]
@@ -326,8 +326,6 @@ impl WatchSome<Given<Moment>> for CountedTap {
     ghost use Rattle.resp_stats.specs.declared.row.CommandRow.{CommandRow};
     ghost use Rattle.resp_tap.specs.CountedTaps.{WatchesCounted};
     ghost use Rattle.resp_tap.specs.Counting.{CountedTap};
-
-    type Kept = ();
 
     type Shared = Counts;
 

@@ -23,9 +23,6 @@ pub(crate) trait WatchSome<G> {
     ghost use Rattle.resp_tap.specs.declared.tap.Tap.{Tap};
     ghost use Rattle.resp_tap.specs.declared.watch.Side.{Side};
 
-    /// What is kept of each command that waits.
-    type Kept;
-
     /// What all taps share, such as counts.
     type Shared;
 
@@ -36,7 +33,7 @@ pub(crate) trait WatchSome<G> {
     ghost state: { Self → Self.Shared → State };
 
     /// The tap of the commands and replies.
-    ghost tap_in: { Self → Tap Self.Kept };
+    ghost tap_in: { Self → Tap };
 
     /// The first result in a piece of this side is read, and printed or counted.
     ghost watches: { G → Side → StepOn State };

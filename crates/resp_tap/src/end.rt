@@ -34,7 +34,7 @@ fn cut_at(place: Place, bytes: u64) -> Option<Cut>
     Some(Cut { place, bytes })
 }
 
-impl<T: Drop> Tap<T> {
+impl Tap {
     /// Returns the command of which the client has sent a part, if its bytes are still read.
     pub fn incomplete_command(&self) -> Option<Cut>
         ensures read { (tap_state self.now).reads_commands ≡ true →

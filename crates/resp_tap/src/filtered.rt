@@ -37,7 +37,7 @@ use std::collections::VecDeque;
 ///
 /// If an allocation fails, the tap keeps a note neither of the command nor of the commands that
 /// follow while it waits.
-pub type FilteredTap = KeepingTap<Notes, ()>;
+pub type FilteredTap = KeepingTap<Notes>;
 
 /// The notes of the commands that wait.
 #[derive(Drop)]
@@ -238,8 +238,6 @@ pub fn watch_filtered<W: Sink>(
 
 impl WatchSome<Given<Option<Moment>>> for FilteredTap {
     ghost use Rattle.resp_tap.specs.Filtering.{FilteredTap, WatchesFiltered};
-
-    type Kept = ();
 
     type Shared = ();
 

@@ -1,12 +1,11 @@
 //! A tap whose traffic is printed as JSON.
 
-ghost use Rattle.std.specs.Prelude.{◌≡◌, ◌<◌, ◌≤◌, ◌-◌, ℕ, List, [], Option, Some, length, nat_lt};
+ghost use Rattle.std.specs.Prelude.{◌≡◌, ◌<◌, ◌≤◌, ℕ, List, [], Option, Some, length};
 ghost use Rattle.resp_print.specs.Printed.{Prints};
 ghost use Rattle.resp_tap.specs.Connections.{IsNewConnection};
-ghost use Rattle.resp_tap.specs.Called.{CalledAfter};
+ghost use Rattle.resp_tap.specs.Called.{CalledAfter, IsCalled};
 ghost use Rattle.resp_tap.specs.Filters.{kept_by};
-ghost use Rattle.resp_tap.specs.Keeping.{AddsAny, KeptBy, MayKeep, items_of};
-ghost use Rattle.resp_tap.specs.declared.called.Called.{Called};
+ghost use Rattle.resp_tap.specs.Keeping.{IsAdded};
 ghost use Rattle.resp_tap.specs.JsonTaps.{WatchesJson, kept_json};
 ghost use Rattle.resp_value.specs.Data.{Datum};
 ghost use Rattle.resp_tap.specs.SeenOf.{IsKeptIn};
@@ -23,16 +22,31 @@ use crate::print::printed;
 use crate::seen::Seen;
 use crate::shown_part::ShownPart;
 use crate::taken::{NONE_TAKEN, Taken};
+use crate::waiting::drop_first;
 use crate::watch::{Side, Watched, waited_of};
 use resp_io::device::Sink;
 use resp_print::print_error::PrintError;
+use resp_session::words::Words;
 use resp_value::limits::Limits;
 use std::alloc::Global;
+use std::collections::VecDeque;
 
 /// A tap whose traffic is printed as JSON, through a [`Filter`].
 ///
 /// The tap keeps the name of each command that waits, and whether its words pass.
-pub type JsonTap = KeepingTap<Taken, Called>;
+///
+/// If an allocation fails, the tap keeps neither the command nor the commands that follow while it
+/// waits. The lines of their replies have no name.
+pub type JsonTap = KeepingTap<Calls>;
+
+/// The names of the commands that wait, and the bytes of incomplete ones.
+#[derive(Drop)]
+pub struct Calls {
+    /// The commands that wait, in their order.
+    pub(crate) calls: VecDeque<Called>,
+    /// The bytes read of an incomplete command and of an incomplete value.
+    pub(crate) taken: Taken,
+}
 
 impl JsonTap {
     /// Returns a tap of a new connection for this filter, which is read within these limits. At
@@ -44,36 +58,45 @@ impl JsonTap {
         ensures new_connection { IsNewConnection limits.now (Some 1024)
             (kept_by filter (Some 1024)) result.connection }
         ensures filter { result.filter ≡ filter }
-        ensures nothing_kept { items_of result.connection.tap ≡ [] }
-        ensures no_bytes { (result.kept.sent ≡ 0) × (result.kept.received ≡ 0) }
+        ensures nothing_kept { result.kept.calls.items ≡ [] }
+        ensures no_bytes { (result.kept.taken.sent ≡ 0) × (result.kept.taken.received ≡ 0) }
     {
         let shown = ShownPart::first(SHOWN);
         let kept = filter.kept_part(shown);
         KeepingTap {
             connection: ConnectionTap::keeping(alloc, limits, shown, kept),
             filter,
-            kept: NONE_TAKEN,
+            kept: Calls {
+                calls: VecDeque::new(alloc),
+                taken: NONE_TAKEN,
+            },
         }
     }
 }
 
-/// Keeps the name of the command that a step has read, if it waits. `is_chosen` says whether the
-/// words of this command are printed.
-fn follow(connection: &mut ConnectionTap<Called>, next: &Next, is_chosen: bool)
-    ensures same { MayKeep next.now.step.seen connection.old connection.new }
-    ensures calls { (older : List Called) → KeptBy
-        (nat_lt next.now.waiting.count next.now.left) AddsAny next.now.step.seen
-        (next.now.waiting.count - next.now.left) older (items_of connection.old.tap) →
-        CalledAfter is_chosen next.now.step.seen next.now.waiting.count next.now.left older
-        (items_of connection.new.tap) }
+/// Adds a command that waits, or drops those that no longer wait, after a result. `is_chosen` says
+/// whether the words of its command are printed.
+fn follow(calls: &mut VecDeque<Called>, next: &Next, is_chosen: bool)
+    ensures { CalledAfter is_chosen next.now.step.seen next.now.waiting.count next.now.left
+        calls.old.items calls.new.items }
 {
+    let before = next.waiting.count;
     match &next.step.seen {
-        Seen::Command { words, .. } if next.waiting.count < next.left => {
-            let name = command_name(words);
-            connection.keep(Called { name, is_chosen });
-        }
-        _ => {}
+        Seen::Command { words, .. } if before < next.left => keep(calls, before, is_chosen, words),
+        _ => drop_first(calls, before.saturating_sub(next.left)),
     }
+}
+
+/// Keeps the name of a command that waits behind this many others.
+fn keep(calls: &mut VecDeque<Called>, before: u64, is_chosen: bool, words: &Words)
+    ensures { IsAdded (IsCalled is_chosen words.now) calls.old.items calls.new.items }
+{
+    // Otherwise a command before this one is missing.
+    if calls.len() as u64 != before {
+        return;
+    }
+    let name = command_name(words);
+    let _ = calls.push_back(Called { name, is_chosen });
 }
 
 /// Writes a result as a line of JSON, if the filter lets it through. `name` is the name of the
@@ -124,9 +147,9 @@ pub fn watch_json_some<W: Sink>(
 {
     let next = tap.connection.step(side, piece, Some(now));
     let seen = &next.step.seen;
-    let size = tap.kept.take(side, next.step.used, seen);
+    let size = tap.kept.taken.take(side, next.step.used, seen);
     let filter = &tap.filter;
-    let called = tap.connection.tap.told(next.waiting.count);
+    let called = tap.kept.calls.get(next.waiting.next);
     let is_chosen = is_chosen_called(filter, called, seen);
     let facts = Facts {
         client,
@@ -137,7 +160,7 @@ pub fn watch_json_some<W: Sink>(
     };
     let name = name_of_called(called);
     let printed = write_kept(filter, facts, is_chosen, name, seen, writer);
-    follow(&mut tap.connection, &next, is_chosen);
+    follow(&mut tap.kept.calls, &next, is_chosen);
     let used = next.step.used;
     drop(next);
     Watched { used, printed }
@@ -197,8 +220,6 @@ pub(crate) struct JsonGiven {
 
 impl WatchSome<JsonGiven> for JsonTap {
     ghost use Rattle.resp_tap.specs.JsonTaps.{JsonTap, WatchesJson};
-
-    type Kept = Called;
 
     type Shared = ();
 

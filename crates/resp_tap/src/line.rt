@@ -4,7 +4,7 @@ ghost use Rattle.std.specs.Prelude.{◌≡◌, ◌≢◌, ◌<◌, ◌≤◌, �
 ghost use Rattle.resp_value.specs.Values.{datum_of};
 ghost use Rattle.resp_session.specs.Heard.{is_push};
 ghost use Rattle.resp_session.specs.Reading.{greater_version, is_refusal};
-ghost use Rattle.resp_tap.specs.LinesOf.{Answers, AnswersAt, DropsFirst, MayAdd, first_of, kept_in, line_of, told_in};
+ghost use Rattle.resp_tap.specs.LinesOf.{DropsFirst, MayAdd, first_of, kept_in, line_of};
 ghost use Rattle.resp_tap.specs.Watching.{place_by_kind, place_on};
 ghost use Rattle.resp_tap.specs.Lines.{after_confirmation, after_reply, asked_by_kind, begins_reply, confirmed, confirms, due_of, has_all, is_confirmation, is_free, is_listening, is_notification, is_reset, is_subscribed, is_two, asked_at, asked_by_first, line_after, line_sent, new_line, next_version, no_subscriptions, number_by_first, number_first, number_for, number_in_class, number_of_reply, open_after, resumed, same_verb, settled, subscriptions_after, subscriptions_by, version_for};
 
@@ -52,8 +52,6 @@ pub(crate) struct Line<T> {
     pub(crate) is_open: bool,
     /// Whether a value has arrived that no command asked for.
     pub(crate) is_lost: bool,
-    /// What was kept of the last command that got its reply.
-    pub(crate) answered: Option<T>,
 }
 
 impl Subscriptions {
@@ -283,7 +281,6 @@ impl<T: Drop> Line<T> {
             subscriptions: Subscriptions::none(),
             is_open: true,
             is_lost: false,
-            answered: None,
         }
     }
 
@@ -312,7 +309,6 @@ impl<T: Drop> Line<T> {
         ensures failed { OnErr result ((line_of self.old).is_lost ≡ false ×
             (due_of number kind (line_of self.old).is_open ≢ [])) }
         ensures unchanged { OnErr result (line_of self.new ≡ line_of self.old) }
-        ensures same_pending { OnErr result (self.new.pending.items ≡ self.old.pending.items) }
         ensures kept { MayAdd kept self.old self.new }
     {
         if self.is_lost {
@@ -384,18 +380,6 @@ impl<T: Drop> Line<T> {
         self.pending.get(index).map(|pending| &pending.kept)
     }
 
-    /// Returns what is kept of the command that the last value belongs to, if this many commands
-    /// waited before the value.
-    pub(crate) fn told(&self, before: u64) -> Option<&T>
-        ensures { option_map (λ kept. kept.now) result ≡ told_in before self.now }
-    {
-        if self.waiting() < before {
-            self.answered.as_ref()
-        } else {
-            self.kept_at(self.asked_at())
-        }
-    }
-
     /// Returns the place of a value that begins now.
     pub(crate) fn place(&self) -> Place
         ensures { result ≡ place_on (line_of self.now) }
@@ -424,7 +408,6 @@ impl<T: Drop> Line<T> {
         ensures number { result ≡ number_for (line_of self.old) (datum_of value.now) }
         ensures after { line_of self.new ≡ line_after (line_of self.old) (datum_of value.now) }
         ensures gone { DropsFirst self.old self.new }
-        ensures answered { Answers self.old self.new }
     {
         if self.is_lost {
             return None;
@@ -452,11 +435,10 @@ impl<T: Drop> Line<T> {
             first.kind ≡ kind →
             line_of self.new ≡ after_confirmation (line_of self.old) first due notice }
         ensures gone { DropsFirst self.old self.new }
-        ensures answered { AnswersAt 0 self.old self.new }
     {
         self.subscriptions = self.subscriptions.after_notice(notice);
         if has_all(kind, self.heard, self.subscriptions) {
-            self.answered = self.pending.pop_front().map(|first| first.kept);
+            let _ = self.pending.pop_front();
             self.heard = 0;
         } else {
             self.heard = self.heard.saturating_add(1);
@@ -471,7 +453,6 @@ impl<T: Drop> Line<T> {
         ensures after { (due : List Due) → (line_of self.old).due ≡ first ∷ due →
             line_of self.new ≡ after_reply (line_of self.old) first.kind due notice (datum_of value.now) }
         ensures gone { DropsFirst self.old self.new }
-        ensures answered { AnswersAt (asked_by_first first.kind) self.old self.new }
     {
         if let CommandKind::Unpairing = first.kind {
             if is_reset(notice) {
@@ -489,9 +470,8 @@ impl<T: Drop> Line<T> {
         ensures after { (notice : Notice) (first : Due) (due : List Due) → (line_of self.old).due ≡ first ∷ due →
             line_of self.new ≡ after_reply (line_of self.old) kind due notice (datum_of value.now) }
         ensures gone { DropsFirst self.old self.new }
-        ensures answered { AnswersAt 0 self.old self.new }
     {
-        self.answered = self.pending.pop_front().map(|first| first.kept);
+        let _ = self.pending.pop_front();
         self.heard = 0;
         if is_refusal(value) {
             return;
@@ -511,14 +491,13 @@ impl<T: Drop> Line<T> {
         ensures after { (first : Due) (due : List Due) → (line_of self.old).due ≡ first ∷ due →
             line_of self.new ≡ resumed (line_of self.old) due }
         ensures gone { DropsFirst self.old self.new }
-        ensures answered { AnswersAt 1 self.old self.new }
     {
         let Some(reset) = self.pending.get(1).map(|reset| reset.due.number) else {
             self.is_lost = true;
             return None;
         };
         let _ = self.pending.pop_front();
-        self.answered = self.pending.pop_front().map(|reset| reset.kept);
+        let _ = self.pending.pop_front();
         self.version = Version::Two;
         self.heard = 0;
         self.subscriptions = Subscriptions::none();

@@ -2,7 +2,6 @@
 
 ghost use Rattle.std.specs.Prelude.{◌≡◌, ◌≢◌, ◌⊎◌, ◌<◌, ◌≤◌, ◌++◌, [], true, length, IfErr, IfOk, OnOk};
 ghost use Rattle.std.specs.Bool.{MatchBool};
-ghost use Rattle.resp_tap.specs.Keeping.{KeepsItems};
 ghost use Rattle.resp_tap.specs.Lined.{BeginsLine, EndsSo, IsInLine, IsNoLine, IsTextOf, SeesLined, TellsLine, WhyRejected};
 ghost use Rattle.resp_tap.specs.Taps.{tap_state};
 ghost use Rattle.resp_tap.specs.Watches.{KeepsOther};
@@ -71,7 +70,7 @@ impl Lines {
 
     /// Returns whether the next bytes of the client belong to a line. A line begins where a command
     /// may begin, with any byte but `*`.
-    fn have<T: Drop>(&self, tap: &Tap<T>, piece: &[u8]) -> bool
+    fn have(&self, tap: &Tap, piece: &[u8]) -> bool
         ensures { MatchBool result (IsInLine self.now tap.now piece.now)
             (IsNoLine self.now tap.now piece.now) }
     {
@@ -109,16 +108,15 @@ impl Lines {
 
     /// Reads bytes that one side sent, until there is a result or the piece ends, as
     /// [`step`](crate::watch::step) does. A line of the client is a command too, if lines are read.
-    pub(crate) fn step<T: Default + Drop>(
+    pub(crate) fn step(
         &mut self,
-        tap: &mut Tap<T>,
+        tap: &mut Tap,
         side: Side,
         piece: &[u8],
         now: Option<Moment>,
     ) -> Lined
         ensures sees { SeesLined now side self.old self.new tap.old tap.new piece.now
             result.step.used result.step.seen result.is_line }
-        ensures items { KeepsItems result.step.seen tap.old tap.new }
         ensures other_side { KeepsOther side tap.old tap.new }
         ensures within_piece { result.step.used ≤ length piece.now }
         ensures uses_bytes { 0 < length piece.now → 0 < result.step.used }
@@ -133,15 +131,9 @@ impl Lines {
     }
 
     /// Reads bytes of a line, up to the end of the line or of the piece.
-    fn read<T: Default + Drop>(
-        &mut self,
-        tap: &mut Tap<T>,
-        piece: &[u8],
-        now: Option<Moment>,
-    ) -> Step
+    fn read(&mut self, tap: &mut Tap, piece: &[u8], now: Option<Moment>) -> Step
         ensures told { HasTakenRequest tap.old [] → (tap_state tap.old).reads_commands ≡ true →
             TellsLine now self.old self.new tap.old tap.new piece.now result.used result.seen }
-        ensures items { KeepsItems result.seen tap.old tap.new }
         ensures same_value { KeepsValue tap.old tap.new }
         ensures within_piece { result.used ≤ length piece.now }
         ensures uses_bytes { 0 < length piece.now → 0 < result.used }
@@ -159,16 +151,9 @@ impl Lines {
     }
 
     /// Reads the words of the line that is held, which ends after this many bytes of the piece.
-    fn end<T: Default + Drop>(
-        &mut self,
-        tap: &mut Tap<T>,
-        piece: &[u8],
-        used: usize,
-        now: Option<Moment>,
-    ) -> Step
+    fn end(&mut self, tap: &mut Tap, piece: &[u8], used: usize, now: Option<Moment>) -> Step
         ensures told { HasTakenRequest tap.old [] → (tap_state tap.old).reads_commands ≡ true →
             EndsSo now self.old.held.items tap.old tap.new result.seen }
-        ensures items { KeepsItems result.seen tap.old tap.new }
         ensures nothing_held { self.new.held.items ≡ [] }
         ensures same_value { KeepsValue tap.old tap.new }
         ensures used { result.used ≡ used }

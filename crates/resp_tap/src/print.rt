@@ -52,7 +52,7 @@ pub struct TextOptions {
     pub kept: ShownPart,
 }
 
-impl<T: Drop> Tap<T> {
+impl Tap {
     ghost use Rattle.resp_tap.specs.Options.{options_of};
 
     /// Returns how results of this tap are printed.

@@ -6,7 +6,7 @@ ghost use Rattle.resp_tap.specs.Watching.{HasTakenSomeRequest, HasTakenSomeValue
 
 use crate::tap::Tap;
 
-impl<T: Drop> Tap<T> {
+impl Tap {
     /// Returns whether the bytes of the client are still read. They are read until the first error
     /// in them.
     pub fn reads_commands(&self) -> bool

@@ -8,7 +8,7 @@ use crate::watch::Side;
 
 /// The number of bytes read of the client's incomplete command, and of the server's incomplete value.
 #[derive(Clone, Copy, Debug, PartialEq, Eq)]
-pub struct Taken {
+pub(crate) struct Taken {
     pub(crate) sent: u64,
     pub(crate) received: u64,
 }

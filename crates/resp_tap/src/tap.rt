@@ -1,6 +1,6 @@
 //! The tap: reads the traffic of one connection, and knows how long each command has waited.
 
-ghost use Rattle.std.specs.Prelude.{◌≡◌, ◌+◌, ◌<◌, ◌≤◌, ◌^◌, ◌++◌, ℕ, List, Option, None, true, false, [], ◌∷◌, length, option_map, take, IfErr, OnOk, OnErr};
+ghost use Rattle.std.specs.Prelude.{◌≡◌, ◌+◌, ◌<◌, ◌≤◌, ◌^◌, ◌++◌, ℕ, List, Option, None, true, false, [], length, take, IfErr, OnOk, OnErr};
 ghost use Rattle.resp_value.specs.Rules.{rules_under};
 ghost use Rattle.resp_value.specs.declared.version.Version.TheVariants.{Two};
 ghost use Rattle.resp_tap.specs.Parts.{IsEnough};
@@ -13,7 +13,7 @@ use crate::moment::Moment;
 use crate::seen::{Place, Seen, Step};
 use crate::shown_part::ShownPart;
 use crate::side_reader::SideReader;
-use crate::waiting::{Timed, Waiting};
+use crate::waiting::Waiting;
 use resp_session::words::{Requested, Words, asked_by};
 use resp_value::CutValue;
 use resp_value::cause::Cause;
@@ -71,15 +71,15 @@ const MOST_COMMANDS: u64 = 9_223_372_036_854_775_808;
 /// This prints `command 1: PING` and `reply 1: Simple(Line { text: [80, 79, 78, 71] }) []`, each on
 /// a line.
 #[derive(Drop)]
-pub struct Tap<T> {
+pub struct Tap {
     /// Reads the bytes of the client.
     pub(crate) requests: SideReader,
     /// The number of commands that were read.
     pub(crate) commands: u64,
     /// Reads the bytes of the server.
     pub(crate) values: SideReader,
-    /// The commands that wait, and what is kept of each.
-    pub(crate) line: Line<Timed<T>>,
+    /// The commands that wait, each with its time on the steady clock, if that is known.
+    pub(crate) line: Line<Option<u64>>,
     pub(crate) limits: Limits,
     ghost in_range: { commands ≤ 2 ^ 63 },
     ghost request_rules: { side_rules requests ≡ rules_under Two limits },
@@ -120,16 +120,22 @@ fn told_as(number: Option<u64>, kept: CutValue) -> Seen
     }
 }
 
-impl Tap<()> {
-    ghost use Rattle.resp_tap.specs.Parts.{kept_for};
-    ghost use Rattle.resp_tap.specs.Taps.{new_tap, tap_state};
-    ghost use Rattle.resp_tap.specs.Times.{times_of};
-    ghost use Rattle.resp_tap.specs.Watching.{HasTakenRequest, HasTakenValue};
+impl Tap {
+    ghost use Rattle.resp_value.specs.Spellings.{IsSpelling};
+    ghost use Rattle.resp_tap.specs.Kinds.{command_kind};
+    ghost use Rattle.resp_tap.specs.Lines.{number_for};
+    ghost use Rattle.resp_tap.specs.LinesOf.{DropsFirst, MayAdd};
+    ghost use Rattle.resp_tap.specs.declared.moment.Moment.{Moment};
+    ghost use Rattle.resp_tap.specs.Parts.{IsKeptOf, kept_for};
+    ghost use Rattle.resp_value.specs.Data.{Datum};
+    ghost use Rattle.resp_tap.specs.Taps.{at_front, new_tap, tap_state, with_command, with_refused_command, with_refused_reply, with_value};
+    ghost use Rattle.resp_tap.specs.Times.{AreWaiting, IsAskedIn, KeepsTimes, times_of, waits_in};
+    ghost use Rattle.resp_tap.specs.Watching.{HasTakenRequest, HasTakenSomeRequest, HasTakenSomeValue, HasTakenValue, IsLeftOut, KeepsRequest, KeepsValue, SeesRequest, SeesValue, WhereAnswered, WhereRequested, place_of_value, request_rules};
 
     /// Returns a tap of a new connection, which is read within these limits. It keeps one byte
     /// more of each text of the server than is shown, and as many bytes of each word of the client,
     /// but at least 65. The call allocates nothing.
-    pub fn new(alloc: Global, limits: &Limits, shown: ShownPart) -> Tap<()>
+    pub fn new(alloc: Global, limits: &Limits, shown: ShownPart) -> Tap
         ensures nothing_passed { tap_state result ≡
             new_tap limits.now shown.most (kept_for 0 shown.most) }
         ensures nothing_requested { HasTakenRequest result [] }
@@ -138,35 +144,15 @@ impl Tap<()> {
     {
         Tap::keeping(alloc, limits, shown, shown.of_words(0))
     }
-}
-
-impl<T: Default + Drop> Tap<T> {
-    ghost use Rattle.resp_value.specs.Spellings.{IsSpelling};
-    ghost use Rattle.resp_tap.specs.Kinds.{command_kind};
-    ghost use Rattle.resp_tap.specs.Lines.{number_for};
-    ghost use Rattle.resp_tap.specs.LinesOf.{Answers, DropsFirst};
-    ghost use Rattle.resp_tap.specs.Keeping.{DropsItems, KeepsItems, items_of, told_of};
-    ghost use Rattle.resp_tap.specs.declared.moment.Moment.{Moment};
-    ghost use Rattle.resp_tap.specs.Parts.{IsKeptOf, kept_for};
-    ghost use Rattle.resp_value.specs.Data.{Datum};
-    ghost use Rattle.resp_tap.specs.Taps.{at_front, new_tap, tap_state, with_command, with_refused_command, with_refused_reply, with_value};
-    ghost use Rattle.resp_tap.specs.Times.{AreWaiting, IsAskedIn, KeepsTimes, MayAddTimed, times_of, waits_in};
-    ghost use Rattle.resp_tap.specs.Watching.{HasTakenRequest, HasTakenSomeRequest, HasTakenSomeValue, HasTakenValue, IsLeftOut, KeepsRequest, KeepsValue, SeesRequest, SeesValue, WhereAnswered, WhereRequested, place_of_value, request_rules};
 
     /// Returns a tap of a new connection, as [`Tap::new`] does, that keeps one byte more of each word
     /// of the client than this part.
-    pub(crate) fn keeping(
-        alloc: Global,
-        limits: &Limits,
-        shown: ShownPart,
-        kept: ShownPart,
-    ) -> Tap<T>
+    pub(crate) fn keeping(alloc: Global, limits: &Limits, shown: ShownPart, kept: ShownPart) -> Tap
         requires { IsEnough shown.most kept.most }
         ensures nothing_passed { tap_state result ≡ new_tap limits.now shown.most kept.most }
         ensures nothing_requested { HasTakenRequest result [] }
         ensures nothing_answered { HasTakenValue result [] }
         ensures no_times { times_of result ≡ [] }
-        ensures nothing_kept { items_of result ≡ [] }
     {
         Tap {
             requests: SideReader::new(alloc, limits, kept),
@@ -182,9 +168,7 @@ impl<T: Default + Drop> Tap<T> {
     pub fn asked(&self) -> Option<u64>
         ensures { IsAskedIn self.now result }
     {
-        self.line
-            .kept_at(self.line.asked_at())
-            .and_then(|kept| kept.time)
+        self.line.kept_at(self.line.asked_at()).copied().flatten()
     }
 
     /// Returns the commands that wait for their replies.
@@ -195,27 +179,6 @@ impl<T: Default + Drop> Tap<T> {
             count: self.line.waiting(),
             next: self.line.asked_at(),
             asked: self.asked(),
-        }
-    }
-
-    /// Returns what is kept of the command that the last value belongs to, if this many commands
-    /// waited before the value.
-    pub(crate) fn told(&self, before: u64) -> Option<&T>
-        ensures { option_map (λ kept. kept.now) result ≡ told_of before self.now }
-    {
-        self.line.told(before).map(|told| &told.kept)
-    }
-
-    /// Keeps this of the last command that waits.
-    pub(crate) fn keep(&mut self, kept: T)
-        ensures kept { (older : List T) (last : T) → items_of self.old ≡ older ++ last ∷ [] →
-            items_of self.new ≡ older ++ kept ∷ [] }
-        ensures same { self.new ≡ record self.old { line = self.new.line } }
-        ensures state { tap_state self.new ≡ tap_state self.old }
-        ensures times { times_of self.new ≡ times_of self.old }
-    {
-        if let Some(last) = self.line.pending.back_mut() {
-            last.kept.kept = kept;
         }
     }
 
@@ -230,13 +193,12 @@ impl<T: Default + Drop> Tap<T> {
     /// `TooMany` for the command after 9,223,372,036,854,775,808 commands or while 1,048,576
     /// commands wait, and with `OutOfMemory` if an allocation fails. After an error the bytes of
     /// the client are skipped.
-    #[tactic(auto, using(crate::proofs::TimeLemmas::times_added, crate::proofs::TimeLemmas::times_stay, crate::proofs::ItemLemmas::items_stay))]
+    #[tactic(auto, using(crate::proofs::TimeLemmas::times_added, crate::proofs::TimeLemmas::times_stay))]
     pub fn from_client(&mut self, piece: &[u8], now: Option<Moment>) -> Step
         ensures seen { (tap_state self.old).reads_commands ≡ true →
             WhereRequested self.old (λ front.
             SeesRequest (tap_state self.old) self.new front piece.now result.used result.seen) }
         ensures times { KeepsTimes now self.old self.new }
-        ensures items { KeepsItems result.seen self.old self.new }
         ensures some { HasTakenSomeRequest self.old }
         ensures same_value { KeepsValue self.old self.new }
         ensures within_piece { result.used ≤ length piece.now }
@@ -311,14 +273,12 @@ impl<T: Default + Drop> Tap<T> {
 
     /// Returns whether a value of the client is a command, a value that a server ignores, or a
     /// value that is not a command. Its kept part decides that. A command has this time.
-    #[tactic(auto, using(crate::proofs::ItemLemmas::items_stay))]
     fn command_of(&mut self, kept: CutValue, sent: Option<u64>) -> Seen
         ensures seen { HasTakenRequest self.old [] → (whole : Datum) (front piece : List ℕ)
             (used : ℕ) → IsSpelling (request_rules (tap_state self.old).limits) whole
             (front ++ take used piece) → IsKeptOf (tap_state self.old).kept whole kept →
             SeesRequest (tap_state self.old) self.new front piece used result }
-        ensures items { KeepsItems result self.old self.new }
-        ensures times { MayAddTimed sent self.old.line self.new.line }
+        ensures times { MayAdd sent self.old.line self.new.line }
         ensures same_value { KeepsValue self.old self.new }
     {
         let number = self.commands.saturating_add(1);
@@ -354,9 +314,7 @@ impl<T: Default + Drop> Tap<T> {
             with_command (command_kind words.now) (tap_state self.old)) }
         ensures refusal { IfErr result (IsLeftOut (tap_state self.old) words.now) }
         ensures unchanged { OnErr result (tap_state self.new ≡ tap_state self.old) }
-        ensures same_pending { OnErr result
-            (self.new.line.pending.items ≡ self.old.line.pending.items) }
-        ensures times { MayAddTimed sent self.old.line self.new.line }
+        ensures times { MayAdd sent self.old.line self.new.line }
         ensures same_request { self.new.requests ≡ self.old.requests }
         ensures same_value { KeepsValue self.old self.new }
     {
@@ -364,11 +322,7 @@ impl<T: Default + Drop> Tap<T> {
             return Err(Cause::TooMany);
         }
         let number = self.commands + 1;
-        let kept = Timed {
-            time: sent,
-            kept: T::default(),
-        };
-        if self.line.send(number, command_kind(words), kept).is_err() {
+        if self.line.send(number, command_kind(words), sent).is_err() {
             return Err(Cause::OutOfMemory);
         }
         self.commands = number;
@@ -383,13 +337,12 @@ impl<T: Default + Drop> Tap<T> {
     /// Reports [`Seen::Refused`] with the error of a [`Decoder`] in the version in which the value is
     /// read, and with `OutOfMemory` if an allocation fails. After an error the bytes of the server are
     /// skipped.
-    #[tactic(auto, using(crate::proofs::TimeLemmas::times_dropped, crate::proofs::TimeLemmas::times_stay, crate::proofs::ItemLemmas::nothing_dropped))]
+    #[tactic(auto, using(crate::proofs::TimeLemmas::times_dropped, crate::proofs::TimeLemmas::times_stay))]
     pub fn from_server(&mut self, piece: &[u8]) -> Step
         ensures seen { (tap_state self.old).reads_replies ≡ true → WhereAnswered self.old (λ front.
             SeesValue (at_front front piece.now (tap_state self.old)) self.new front piece.now
             result.used result.seen) }
         ensures times { (now : Option Moment) → KeepsTimes now self.old self.new }
-        ensures items { DropsItems self.old self.new }
         ensures some { HasTakenSomeValue self.old }
         ensures same_request { KeepsRequest self.old self.new }
         ensures within_piece { result.used ≤ length piece.now }
@@ -424,7 +377,6 @@ impl<T: Default + Drop> Tap<T> {
         ensures seen { WhereAnswered self.old (λ front. SeesValue (tap_state self.old) self.new
             front piece.now result.used result.seen) }
         ensures gone { DropsFirst self.old.line self.new.line }
-        ensures answered { Answers self.old.line self.new.line }
         ensures same_request { self.new.requests ≡ self.old.requests }
         ensures within_piece { result.used ≤ length piece.now }
         ensures uses_bytes { 0 < length piece.now → 0 < result.used }
@@ -454,7 +406,6 @@ impl<T: Default + Drop> Tap<T> {
         ensures after { tap_state self.new ≡
             with_value (datum_of kept.value) (tap_state self.old) }
         ensures gone { DropsFirst self.old.line self.new.line }
-        ensures answered { Answers self.old.line self.new.line }
         ensures same_values { self.new.values ≡ self.old.values }
         ensures same_request { self.new.requests ≡ self.old.requests }
     {

@@ -1,16 +1,8 @@
-//! The commands that wait for their replies.
+//! The queue of the commands that wait for their replies.
 
 ghost use Rattle.std.specs.Prelude.{◌≡◌, drop};
 
 use std::collections::VecDeque;
-
-/// What a tap keeps of a command that waits for its reply.
-#[derive(Debug, Drop)]
-pub(crate) struct Timed<T> {
-    /// The time at which it arrived, on the steady clock, if it is known.
-    pub(crate) time: Option<u64>,
-    pub(crate) kept: T,
-}
 
 /// The commands that wait for their replies.
 #[derive(Clone, Copy, Debug)]

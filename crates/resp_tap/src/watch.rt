@@ -1,7 +1,6 @@
 //! Prints the traffic of a connection, piece by piece.
 
 ghost use Rattle.std.specs.Prelude.{◌≡◌, ◌<◌, ◌≤◌, List, length, false};
-ghost use Rattle.resp_tap.specs.Keeping.{KeepsItems};
 ghost use Rattle.resp_tap.specs.Times.{stamp_of, waited_of};
 ghost use Rattle.resp_tap.specs.Watches.{KeepsOther, SeesFirst, Watches, WatchesAll};
 ghost use Rattle.resp_tap.specs.declared.seen.Seen.{Seen};
@@ -32,14 +31,8 @@ pub struct Watched {
 }
 
 /// Reads bytes that one side sent, until there is a result or the piece ends.
-pub(crate) fn step<T: Default + Drop>(
-    tap: &mut Tap<T>,
-    side: Side,
-    piece: &[u8],
-    now: Option<Moment>,
-) -> Step
+pub(crate) fn step(tap: &mut Tap, side: Side, piece: &[u8], now: Option<Moment>) -> Step
     ensures sees { SeesFirst side now tap.old tap.new piece.now result.used result.seen }
-    ensures items { KeepsItems result.seen tap.old tap.new }
     ensures other_side { KeepsOther side tap.old tap.new }
     ensures within_piece { result.used ≤ length piece.now }
     ensures uses_bytes { 0 < length piece.now → 0 < result.used }
@@ -81,7 +74,7 @@ pub(crate) fn stamp_of(now: Option<Moment>, asked: Option<u64>, seen: &Seen) -> 
 ///
 /// [`Watched::printed`] has the error of printing. The tap has read the bytes in any case.
 pub fn watch_some<W: Sink>(
-    tap: &mut Tap<()>,
+    tap: &mut Tap,
     printing: Printing,
     side: Side,
     piece: &[u8],
@@ -139,7 +132,7 @@ pub fn watch_some<W: Sink>(
 ///   int 7
 /// ```
 pub fn watch<W: Sink>(
-    tap: &mut Tap<()>,
+    tap: &mut Tap,
     printing: Printing,
     side: Side,
     piece: &[u8],
@@ -155,14 +148,13 @@ pub fn watch<W: Sink>(
     watch_each(tap, &mut (), given, side, piece, writer)
 }
 
-impl WatchSome<Given<Option<Moment>>> for Tap<()> {
-    ghost use Rattle.resp_tap.specs.Watches.{PlainTap, Watches};
-
-    type Kept = ();
+impl WatchSome<Given<Option<Moment>>> for Tap {
+    ghost use Rattle.resp_tap.specs.Watches.{Watches};
+    ghost use Rattle.resp_tap.specs.declared.tap.Tap.{Tap};
 
     type Shared = ();
 
-    ghost State = { PlainTap };
+    ghost State = { Tap };
 
     ghost state = { λ tap _. tap };
 

@@ -6,7 +6,7 @@ use Rattle.resp_tap.proofs.LineReading.{line_told}
 use Rattle.resp_tap.proofs.lines.Lines.end.Goals as goal
 
 pub returns-in-Ok-Some-clause-told : goal.returns-in-Ok-Some-clause-told
-returns-in-Ok-Some-clause-told g c = λ taken reads.
+returns-in-Ok-Some-clause-told c = λ taken reads.
     let old = c.args.tap.now in
     let step = c.from_client.result in
     let its = subst (IsTextOf old.limits c.as_slice.result.now) c.in-Ok-Some.field-0-is c.in-Ok-Some.ensures.text in

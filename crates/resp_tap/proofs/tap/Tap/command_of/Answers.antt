@@ -3,13 +3,12 @@ use Rattle.resp_session.specs.Commands.{meaning_of}
 use Rattle.resp_tap.specs.Sides.{HasSent}
 use Rattle.resp_tap.specs.Taps.{tap_state, with_command, with_refused_command}
 use Rattle.resp_tap.specs.declared.seen.Place.TheVariants as place
-use Rattle.resp_tap.proofs.ItemLemmas.{items_added, items_same}
 use Rattle.resp_tap.proofs.KeptWords.{kept_words_tell_the_same}
 use Rattle.resp_tap.proofs.WholeCommands.{command_read, left_out_whole, whole_no_command, whole_nothing}
 use Rattle.resp_tap.proofs.tap.Tap.command_of.Goals as goal
 
 pub returns-in-Ok-clause-seen : goal.returns-in-Ok-clause-seen
-returns-in-Ok-clause-seen g c = λ taken whole front piece used spelled is.
+returns-in-Ok-clause-seen c = λ taken whole front piece used spelled is.
     let (command, are) = command_read _ _ whole c.args.kept c.in-Command.words c.args.self.now.enough is c.in-Command.ensures.has_name c.in-Command.ensures.meaning in
     let kind = (kept_words_tell_the_same _ _ command.all c.in-Command.words c.args.kept.lengths.items are).kind in
     record {
@@ -25,7 +24,7 @@ returns-in-Ok-clause-seen g c = λ taken whole front piece used spelled is.
     }
 
 pub returns-in-Err-clause-seen : goal.returns-in-Err-clause-seen
-returns-in-Err-clause-seen g c = λ taken whole front piece used spelled is.
+returns-in-Err-clause-seen c = λ taken whole front piece used spelled is.
     let (command, are) = command_read _ _ whole c.args.kept c.in-Command.words c.args.self.now.enough is c.in-Command.ensures.has_name c.in-Command.ensures.meaning in
     let kind = (kept_words_tell_the_same _ _ command.all c.in-Command.words c.args.kept.lengths.items are).kind in
     record {
@@ -44,7 +43,7 @@ returns-in-Err-clause-seen g c = λ taken whole front piece used spelled is.
     }
 
 pub returns-in-Nothing-clause-seen : goal.returns-in-Nothing-clause-seen
-returns-in-Nothing-clause-seen g c = λ taken whole front piece used spelled is. record {
+returns-in-Nothing-clause-seen c = λ taken whole front piece used spelled is. record {
   value = whole;
   spelled = spelled;
   means = whole_nothing c.args.self.now.requests.shown.most whole (sym (ap meaning_of is.value) ∙ sym c.in-Nothing.ensures.meaning);
@@ -53,19 +52,10 @@ returns-in-Nothing-clause-seen g c = λ taken whole front piece used spelled is.
 }
 
 pub returns-in-NoCommand-clause-seen : goal.returns-in-NoCommand-clause-seen
-returns-in-NoCommand-clause-seen g c = λ taken whole front piece used spelled is. record {
+returns-in-NoCommand-clause-seen c = λ taken whole front piece used spelled is. record {
   value = whole;
   spelled = spelled;
   means = whole_no_command c.args.self.now.requests.shown.most whole (sym (ap meaning_of is.value) ∙ sym c.in-NoCommand.ensures.meaning);
   numbered = search rules;
   after = c.stop_commands-in-NoCommand.ensures.after;
 }
-
-pub returns-in-Ok-clause-items : goal.returns-in-Ok-clause-items
-returns-in-Ok-clause-items g c =
-    items_added c.args.sent _ c.in-Command.words c.args.kept.lengths c.args.self.now c.take_command.new.self c.in-Ok.ensures.times
-
-pub returns-in-Err-clause-items : goal.returns-in-Err-clause-items
-returns-in-Err-clause-items g c =
-    items_same _ c.args.self.now c.stop_commands.new.self
-    (ap (λ l. l.pending.items) c.stop_commands.ensures.same_line ∙ c.in-Err.ensures.same_pending)

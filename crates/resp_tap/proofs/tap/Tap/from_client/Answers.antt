@@ -7,7 +7,7 @@ use Rattle.resp_tap.specs.Watching.{SeesRequest}
 use Rattle.resp_tap.proofs.tap.Tap.from_client.Goals as goal
 
 pub returns-in-Some-clause-seen : goal.returns-in-Some-clause-seen
-returns-in-Some-clause-seen g c = λ reads front taken.
+returns-in-Some-clause-seen c = λ reads front taken.
     let old = c.args.self.now in
     let fed = c.in-Ok.ensures in
     let kept = c.in-Some.kept in

@@ -10,7 +10,7 @@ use Rattle.resp_tap.proofs.KeptLemmas.{sees_told, state_of_values}
 use Rattle.resp_tap.proofs.tap.Tap.read_value.Goals as goal
 
 pub returns-in-Some-clause-seen : goal.returns-in-Some-clause-seen
-returns-in-Some-clause-seen g c = λ front taken.
+returns-in-Some-clause-seen c = λ front taken.
     let old = c.args.self.now in
     let fed = c.in-Ok.ensures in
     let kept = c.in-Some.kept in
