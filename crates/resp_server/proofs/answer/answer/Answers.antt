@@ -25,7 +25,7 @@ loop-used-init g c = record {
 pub take_turn-requires : goal.take_turn-requires
 take_turn-requires g c =
     let i = c.loop-used.invariant in
-    subst (λ limits. IsReading limits c.loop-used.shared.store c.loop-used.session) (sym i.same_limits) i.ready
+    subst (λ limits. IsReading limits c.loop-used.database.store c.loop-used.session) (sym i.same_limits) i.ready
 
 pub returns-in-Err-clause-stored : goal.returns-in-Err-clause-stored
 returns-in-Err-clause-stored g c =
@@ -41,14 +41,14 @@ pub returns-in-Err-clause-cut_short : goal.returns-in-Err-clause-cut_short
 returns-in-Err-clause-cut_short g c front taken =
     let i = c.loop-used.invariant in
     let after : Session = c.take_turn.new.session in
-    cut_short c.loop-used.used i.ready.is_open (i.answered front taken) c.in-Err.ensures.unchanged refl refl refl
+    cut_short {after = after} c.loop-used.used i.ready.is_open (i.answered front taken) c.in-Err.ensures.unchanged refl refl refl
     (omega arith)
 
 pub returns-then-session-clause-answered : goal.returns-then-session-clause-answered
 returns-then-session-clause-answered g c front taken =
     let i = c.loop-used.invariant in
     let before = i.answered front taken in
-    let turn = subst (λ limits. AnswersBytes limits c.loop-used.shared.store c.take_turn.new.database.store c.loop-used.session c.take_turn.new.session
+    let turn = subst (λ limits. AnswersBytes limits c.loop-used.database.store c.take_turn.new.database.store c.loop-used.session c.take_turn.new.session
     before.rest (take (length c.args.piece.now - c.loop-used.used) (drop c.loop-used.used c.args.piece.now)) c.in-Ok.turn.used c.in-Ok.turn.commands)
     i.same_limits (c.in-Ok.ensures.answered before.rest (before.taking i.ready.is_open)) in
     let all = length c.args.piece.now in
@@ -76,7 +76,7 @@ loop-used-preserved g c =
     record {
       answered = λ front taken.
           let a = i.answered front taken in
-          let turn = subst (λ limits. AnswersBytes limits c.loop-used.shared.store c.take_turn.new.database.store c.loop-used.session
+          let turn = subst (λ limits. AnswersBytes limits c.loop-used.database.store c.take_turn.new.database.store c.loop-used.session
           c.take_turn.new.session a.rest (take (length c.args.piece.now - c.loop-used.used) (drop c.loop-used.used c.args.piece.now)) c.in-Ok.turn.used
           c.in-Ok.turn.commands) i.same_limits (c.in-Ok.ensures.answered a.rest (a.taking i.ready.is_open)) in
           turn_answered c.answers_go_on.ensures front c.args.piece.now c.loop-used.used c.loop-used.commands i.same_id

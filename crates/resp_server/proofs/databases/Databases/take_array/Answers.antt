@@ -79,7 +79,7 @@ returns-in-Ok-run-clause-taken g c front h =
     let limits = server.limits in
     let client = c.args.client.now in
     let found = c.in-Some-Command.command in
-    let between = record client { unfinished = record client.unfinished { begun = c.next_request.new.begun } } in
+    let between = record client { unfinished = record client.unfinished { begun = c.next_request.new.begun }; small = c.client-1.given.0 } in
     let after = c.run.new.client in
     let whole = request_found c.self.inside.frames client.unfinished.begun c.next_request.new.begun front piece c.in-Ok.found (Command found)
     c.self.invariant.ready c.self.invariant.same_rules c.self.view_is h.begun (grind arith) c.in-Ok.ensures.whole in

@@ -25,7 +25,7 @@ returns-in-Ok-clause-taken g c no_array on =
     let piece = c.args.piece.now in
     let array = c.as_slice.result.now in
     let client = c.args.client.now in
-    let between = record client { unfinished = record client.unfinished { line = c.next_inline.new.line } } in
+    let between = record client { unfinished = record client.unfinished { line = c.next_inline.new.line }; small = c.client-1.given.0 } in
     let read = subst (λ l. ReadsLine l front piece between.unfinished.line.items c.in-Ok-Some.field-0) (ap (λ (v : ServerState). v.limits) c.self.view_is)
     (c.in-Ok-Some.ensures.read on) in
     let (none, line) = subst (ReadsLine limits front piece between.unfinished.line.items) c.in-Ok-Some.field-0-is read in

@@ -7,8 +7,8 @@ use Rattle.resp_server.proofs.hub.Hub.new.Goals as goal
 
 pub invariant_of-result : goal.invariant_of-result
 invariant_of-result g c = record {
-  stored = subst (FitsStore c.args.limits) (sym c.new.ensures)
-      (record { distinct = IsDistinct-from_apart bytes_eq [] (λ i j d before within. absurd (omega (arith, within))); values = tt });
+  stored = subst (λ limits. FitsStore limits c.new.result.store) (sym c.new.ensures.limits) (subst (FitsStore c.args.limits) (sym c.new.ensures.store)
+      (record { distinct = IsDistinct-from_apart bytes_eq [] (λ i j d before within. absurd (omega (arith, within))); values = tt }));
   few = omega arith;
-  sound = subst (AreSound c.args.limits 0) (sym c.new-2.ensures.empty) tt;
+  sound = subst (AreSound c.new.result.limits 0) (sym c.new-2.ensures.empty) tt;
 }
