@@ -77,11 +77,11 @@ closed_answered ends {limits} {store} {store'} {before} {after} {k} front piece 
     }
 
 -- when out of memory, what was answered before stands
-pub cut_short : {limits : Bounds} {store store' store'' : Store} {before middle after last : Session} {front piece : List ℕ} {k : ℕ} (n : ℕ) →
+pub cut_short : {limits : Bounds} {store store' store'' : Store} {before middle last : Session} {front piece : List ℕ} {k : ℕ} (after : Session) (n : ℕ) →
     middle.closing ≡ false → IsAnswered limits store store' before middle (front ++ take n piece) k → IsSessionAsBefore store' store'' middle after →
     last.version ≡ after.version → last.out.items ≡ after.out.items → last.closing ≡ true → n < length piece →
     IsCutShort limits store store'' before last front piece k
-cut_short {limits} {store} {store'} {before} {middle} {last} {front} {piece} {k} n is_open a same version out closes left =
+cut_short {limits} {store} {store'} {store''} {before} {middle} {last} {front} {piece} {k} after n is_open a same version out closes left =
     let start = state_with store before.version [] false 0 in
     let text = front ++ take n piece in
     record {

@@ -40,8 +40,7 @@ returns-then-session-clause-stored g c =
 pub returns-in-Err-clause-cut_short : goal.returns-in-Err-clause-cut_short
 returns-in-Err-clause-cut_short g c front taken =
     let i = c.loop-used.invariant in
-    let after : Session = c.take_turn.new.session in
-    cut_short {after = after} c.loop-used.used i.ready.is_open (i.answered front taken) c.in-Err.ensures.unchanged refl refl refl
+    cut_short c.take_turn.new.session c.loop-used.used i.ready.is_open (i.answered front taken) c.in-Err.ensures.unchanged refl refl refl
     (omega arith)
 
 pub returns-then-session-clause-answered : goal.returns-then-session-clause-answered
