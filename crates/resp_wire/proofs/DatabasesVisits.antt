@@ -20,7 +20,6 @@ use Rattle.resp_server.specs.Servers.{ServerState}
 use Rattle.resp_server.specs.Taking.{Begins, DoesParts, Ends, HasUnfinished, IsOpenBefore, KeepsUnfinished, Progress, Takes, TakesFirst, WhereUnfinished, after_parts, after_rejection, after_request, progress_of}
 use Rattle.resp_wire.specs.DatabasesClients.{CutsClient, Serves, ServesClient, ServesFirst, WritesText, with_written}
 use Rattle.resp_server.specs.declared.databases.client.Client.{Client}
-use Rattle.resp_server.specs.declared.databases.rejection.Rejection.{Rejection}
 use Rattle.resp_server.proofs.Runs.{progress_at}
 use Rattle.resp_server.proofs.Takings.{same_limits, same_twice}
 
@@ -74,11 +73,6 @@ does_more limits limits' parts others bytes rest more rest' text p q q' r same f
       sym (parts_more parts others p);
 }
 
-written_rejection : (text : List ℕ) (why : Rejection) (p : Progress) → with_written text (after_rejection why p) ≡ after_rejection why (with_written text p)
-written_rejection text why p =
-    ap (λ (w : List ℕ). progress_at p.stores (record p.client { closing = true }) w)
-    (sym (append_assoc text p.waiting (canonical_text Two (error (rejection_text why)))))
-
 -- the same end, after this text was written
 ends_written : (limits : Bounds) (rest text : List ℕ) (r q : Progress) (c : Client) → Ends limits rest r q c →
     Ends limits rest (with_written text r) (with_written text q) c
@@ -87,7 +81,8 @@ ends_written limits rest text r q c (inr (inl e)) = inr (inl (record {
   is_open = e.is_open;
   why = e.why;
   rejected = e.rejected;
-  replied = ap (with_written text) e.replied ∙ written_rejection text e.why r;
+  replied = ap (with_written text) e.replied ∙ ap (λ (w : List ℕ). progress_at r.stores (record r.client { closing = true }) w)
+      (sym (append_assoc text r.waiting (canonical_text Two (error (rejection_text e.why)))));
   begun = e.begun;
 }))
 ends_written limits rest text r q c (inr (inr i)) = inr (inr (record { closing = i.closing; same = ap (with_written text) i.same; begun = i.begun }))
