@@ -137,7 +137,7 @@ def verdict(case, feed, got, about):
     if must == "novalue":
         return "right" if values == due else "accepted" if values[:len(due)] == due else of_valid(values, due, [], is_error)
     choices = [due] + [listed(other, about) for other in case.get("other", ())]
-    if is_error and not values or any(values == choice + known and not is_error for choice in choices):
+    if is_error and not values or any(values == choice + known and (has_end or not is_error) for choice in choices):
         return "right"
     return min((of_valid(values, choice, known, is_error) for choice in choices), key=lambda it: -WORST_FIRST.index(it))
 

@@ -12,6 +12,7 @@ hiredis = types.ModuleType("hiredis")
 hiredis.Reader, hiredis.__version__ = resp.Reader, "2.0.0"
 sys.modules["hiredis"] = hiredis
 
+import async_timeout  # noqa: E402
 import redis  # noqa: E402
 import redis.asyncio  # noqa: E402
 from redis.connection import HiredisParser  # noqa: E402
@@ -119,6 +120,32 @@ async def talk_by_asyncio(port):
     await pool.disconnect()
 
 
+async def talk_after_a_timeout(port):
+    """A task in which a timeout of async_timeout has expired sends commands as before, and its own timeouts expire."""
+    pool = redis.asyncio.ConnectionPool(port=port, parser_class=AsyncParser)
+    server = redis.asyncio.Redis(connection_pool=pool)
+    try:
+        async with async_timeout.timeout(0.01):
+            await asyncio.sleep(10)
+        sys.exit("the timeout did not expire")
+    except asyncio.TimeoutError:
+        pass
+    check(await server.set("c", b"1"), True)
+    check(await server.get("c"), b"1")
+    subscription = server.pubsub()
+    await subscription.subscribe("channel")
+    check((await subscription.get_message(timeout=10))["type"], "subscribe")
+    check(await subscription.get_message(timeout=0.01), None)
+    # A task that is cancelled while it waits for a message ends.
+    waiting = asyncio.ensure_future(subscription.get_message(timeout=10))
+    await asyncio.sleep(0.01)
+    waiting.cancel()
+    await asyncio.wait({waiting})
+    check(waiting.cancelled(), True)
+    await subscription.unsubscribe("channel")
+    await pool.disconnect()
+
+
 def paired(port, commands):
     """Sends HELLO, and then the other commands in one write. Returns the number of each command and the replies with
     theirs, until the last command has its reply."""
@@ -163,6 +190,7 @@ def main(port):
     talk(client(port), client(port, decode_responses=True))
     talk_in_protocol_3(port)
     asyncio.run(talk_by_asyncio(port))
+    asyncio.run(talk_after_a_timeout(port))
     pair_subscriptions(port)
     print("redis-py reads by resp")
 

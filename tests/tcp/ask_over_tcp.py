@@ -31,6 +31,13 @@ def one_command():
         assert run_ask(serve.port, ["GET", "-3"]) == (b'bulk "a b" 3\n', b"", 0)
         assert run_ask(serve.port, "-3", ["GET", "nothing"]) == (b"null\n", b"", 0)
         assert run_ask(serve.port, ["NOPE"]) == (b'error "ERR unknown command" 19\n', b"", 1)
+        # No word after SERVER is an option, and the words may have any bytes.
+        assert run_ask(serve.port, ["--json", "ECHO", "a"]) == (b'error "ERR unknown command" 19\n', b"", 1)
+        assert run_ask(serve.port, ["ECHO", "--json"]) == (b'bulk "--json" 6\n', b"", 0)
+        assert run_ask(serve.port, "--json", ["ECHO", "--help"]) == (b'"--help"\n', b"", 0)
+        assert run_ask(serve.port, ["ECHO", b"\xff a\xc3("]) == (b'bulk "\\xff a\\xc3(" 5\n', b"", 0)
+        no_text = b"error: a word of the command line is not UTF-8\n"
+        assert run_ask(serve.port, "--user", b"\xff", ["ECHO", b"\xff"]) == (b"", no_text, 2)
         refused = b'"Monitor" is not sent: it does not have exactly one reply, or it changes the version\n'
         assert run_ask(serve.port, ["Monitor"]) == (b"", refused, 1)
 
@@ -90,6 +97,10 @@ def many_lines():
             assert run_ask(serve.port, "--window", window, [], lines=lines) == (wanted, b"", 0), window
         counted = run_ask(serve.port, "--count", [], lines=lines + b"NOPE\n")
         assert re.fullmatch(rb"replies 503 errors 1 seconds \d+\.\d{3} per second \d+\n", counted[0]) and counted[2] == 1, counted
+        # The numbers are printed after a wrong line too.
+        output, errors, status = run_ask(serve.port, "--count", [], lines=b'PING\nNOPE\nGET "a\nPING\n')
+        assert re.fullmatch(rb"replies 2 errors 1 seconds \d+\.\d{3} per second \d+\n", output), output
+        assert (errors, status) == (b"line 3: the quote at byte 4 is not closed\n", 1), errors
 
 
 def lines_that_come_slowly():

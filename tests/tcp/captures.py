@@ -82,6 +82,12 @@ def enhanced(order, number, ticks, frame):
     return block(order, 6, struct.pack(order + "IIIII", number, ticks >> 32, ticks % 2**32, len(frame), len(frame)) + frame)
 
 
+def older(order, number, ticks, frame):
+    """Returns a packet block, which enhanced packet blocks have replaced. It says that three packets were lost."""
+    head = struct.pack(order + "HHIIII", number, 3, ticks >> 32, ticks % 2**32, len(frame), len(frame))
+    return block(order, 2, head + frame)
+
+
 def simple(order, frame):
     return block(order, 3, struct.pack(order + "I", len(frame)) + frame)
 
@@ -208,6 +214,15 @@ def offsets():
     return section(">") + interface(">", 1, 6, 3_600) + interface(">", 1, None, -1) + b"".join(blocks)
 
 
+def older_blocks(order=">"):
+    """A connection in packet blocks of an older form, on the second of two interfaces. An enhanced one is between them."""
+    text = section(order) + interface(order, 0) + interface(order, 1, 9)
+    for index, (seconds, micros, frame) in enumerate(timed(talk(commands=[(PING, PONG), (GET, BULK)]))):
+        write = enhanced if index == 3 else older
+        text += write(order, 1, (seconds * 1_000_000 + micros) * 1_000, frame)
+    return text
+
+
 def main():
     files = {
         "replay": plain(),
@@ -218,6 +233,7 @@ def main():
         "replay-json-gap": gap(),
         "replay-connections": plain(),
         "replay-stats": plain(),
+        "replay-stats-of-days": pcap(timed(talk(commands=[(PING, PONG)]), step=100_000_000_000)),
         "replay-of-another-order": reordered(),
         "replay-gap": gap(),
         "replay-in-the-middle": middle(CLIENT, SERVER),
@@ -227,6 +243,8 @@ def main():
         "replay-cut": plain()[:-5],
         "replay-of-nanoseconds": pcap(timed(talk(commands=[(PING, PONG)])), order=">", nano=True),
         "replay-with-offsets": offsets(),
+        "replay-of-older-blocks": older_blocks(),
+        "replay-of-older-blocks-little": older_blocks("<"),
         "replay-with-a-long-block": plain()[:32] + struct.pack("<I", 1_048_561) + plain()[36:],
         "replay-of-another-link": pcap(timed(talk()), link=105),
     }

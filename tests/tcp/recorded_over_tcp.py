@@ -136,6 +136,23 @@ def times_of_the_traffic():
     assert first <= times[0] and times[-1] <= last or last < first, (first, times, last)
 
 
+def same_times():
+    """The lines that were printed and those of the replay have the same times, except that of a connection that is gone."""
+    with running("serve", "127.0.0.1:0") as serve:
+        with recording("--time", "127.0.0.1:0", f"127.0.0.1:{serve.port}") as (tap, file):
+            with connect(tap.port) as stream:
+                for _ in range(50):
+                    stream.sendall(PING)
+                    hear(stream, PONG)
+            until(lambda: b"client 1 gone" in tap.printed(), "the client does not go")
+            live, later = without_head(tap.printed()), replay(file, "--time")
+
+    def times(printed):
+        return re.findall(rb"^client 1 ((?:command|reply|closed).*? at [0-9:.]{15})", printed, re.M)
+
+    assert len(times(live)) == 101 and times(live) == times(later), [pair for pair in zip(times(live), times(later)) if pair[0] != pair[1]][:3]
+
+
 def read_by_tcpdump():
     """tcpdump finds the packets, the checksums of their first heads, and the bytes of both sides."""
     if not shutil.which("tcpdump"):
@@ -229,4 +246,4 @@ def failed_write():
             tap.wait()
 
 
-TESTS = [recorded, numbers_stay, times_of_the_traffic, read_by_tcpdump, new_file, other_addresses, failed_write]
+TESTS = [recorded, numbers_stay, times_of_the_traffic, same_times, read_by_tcpdump, new_file, other_addresses, failed_write]

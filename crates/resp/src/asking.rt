@@ -27,11 +27,22 @@ const FAILED: u8 = 3;
 /// The line for a reply that does not come in time.
 const NO_REPLY: &[u8] = b"read failed: no reply within the time of --timeout\n";
 
-/// Sends the command in the words, or the commands of standard input, and prints the replies.
-/// Returns the exit status.
+/// The commands that are sent to a server.
+#[derive(Drop)]
+struct Request<'a, 'b> {
+    asking: &'a Asking<'b>,
+    /// The words of the command. If there is no word, commands are read from standard input.
+    words: Vec<Vec<u8>>,
+    /// The password for AUTH, if there is one.
+    password: Option<String>,
+}
+
+/// Sends the command in the words, or the commands of standard input, and prints the replies. The
+/// words are those of `asking`, whose bytes need not be text. Returns the exit status.
 pub fn run_ask<O: LiveSink>(
     rt: &HostRuntime,
     asking: &Asking<'_>,
+    words: Vec<Vec<u8>>,
     output: &mut O,
     faults: &mut Faults<'_>,
 ) -> Result<u8, AllocError> {
@@ -43,7 +54,13 @@ pub fn run_ask<O: LiveSink>(
         );
         return Ok(BAD_ARGUMENTS);
     }
-    let status = ask_server(rt, asking, password.as_deref(), output, faults)?;
+    let request = Request {
+        asking,
+        words,
+        password,
+    };
+    let status = ask_server(rt, &request, output, faults)?;
+    drop(request);
     if status != 0 {
         let _ = write_hint(asking, &mut faults.lines);
     }
@@ -53,12 +70,11 @@ pub fn run_ask<O: LiveSink>(
 /// Connects to the server, sends the commands and prints the replies. Returns the exit status.
 fn ask_server<O: LiveSink>(
     rt: &HostRuntime,
-    asking: &Asking<'_>,
-    password: Option<&str>,
+    request: &Request<'_, '_>,
     output: &mut O,
     faults: &mut Faults<'_>,
 ) -> Result<u8, AllocError> {
-    let alloc = rt.alloc();
+    let (alloc, asking) = (rt.alloc(), request.asking);
     let addresses = match addresses_of(rt, alloc, &asking.server) {
         Ok(addresses) => addresses,
         Err(error) => return refuse_server(alloc, &asking.server, &error, faults),
@@ -75,15 +91,7 @@ fn ask_server<O: LiveSink>(
     };
     let mut reader = Device::new(WatchedInput::new(&stream, faults.failures));
     let mut writer = Device::new(WatchedOutput::new(&stream, faults.failures));
-    ask_over(
-        rt,
-        asking,
-        password,
-        &mut reader,
-        &mut writer,
-        output,
-        faults,
-    )
+    ask_over(rt, request, &mut reader, &mut writer, output, faults)
 }
 
 /// Returns the time that the server has for each reply, if there is a limit.
@@ -96,24 +104,15 @@ fn timeout_of(asking: &Asking<'_>) -> Option<Duration> {
 /// Returns the exit status.
 fn ask_over<R: Source, W: Sink, O: LiveSink>(
     rt: &HostRuntime,
-    asking: &Asking<'_>,
-    password: Option<&str>,
+    request: &Request<'_, '_>,
     reader: &mut R,
     writer: &mut W,
     output: &mut O,
     faults: &mut Faults<'_>,
 ) -> Result<u8, AllocError> {
-    let form = form_of(rt, asking);
+    let asking = request.asking;
     let mut talk = Talk::new(rt.alloc(), &asking.options.limits, reader, writer);
-    let asked = ask_with(
-        rt,
-        &mut talk,
-        asking,
-        password,
-        form,
-        faults.failures,
-        output,
-    );
+    let asked = ask_with(rt, &mut talk, request, faults.failures, output);
     let (errors, next_reply) = (talk.errors(), talk.next_reply());
     drop(talk);
     match asked {
@@ -170,19 +169,19 @@ pub fn write_why(
 }
 
 /// Sends AUTH and HELLO, and the commands if they were accepted. If the replies are counted, prints the
-/// numbers of replies and errors and the time.
+/// numbers of replies and errors and the time, unless a write of the output has failed.
 fn ask_with<R: Source, W: Sink, O: LiveSink>(
     rt: &HostRuntime,
     talk: &mut Talk<'_, R, W>,
-    asking: &Asking<'_>,
-    password: Option<&str>,
-    form: ReplyForm,
+    request: &Request<'_, '_>,
     failures: &Failures,
     output: &mut O,
 ) -> Result<(), Failure> {
+    let asking = request.asking;
+    let form = form_of(rt, asking);
     let greeting = Greeting {
         user: asking.options.user,
-        password,
+        password: request.password.as_deref(),
         is_three: asking.options.is_three,
         form: if asking.options.style.json {
             ReplyForm::Json
@@ -195,12 +194,15 @@ fn ask_with<R: Source, W: Sink, O: LiveSink>(
     }
     talk.begin(form);
     let start = Instant::now(rt);
-    send_commands(rt, talk, asking, failures, output)?;
-    if form != ReplyForm::Counted {
-        return Ok(());
+    let sent = send_commands(rt, talk, request, failures, output);
+    if form != ReplyForm::Counted || sent.as_ref().is_err_and(Failure::is_of_output) {
+        return sent;
     }
     let micros = micros_since(rt, start);
-    write_totals(talk.replies(), talk.errors(), micros, output).map_err(|_| Failure::Output)
+    match write_totals(talk.replies(), talk.errors(), micros, output) {
+        Ok(()) => sent,
+        Err(_) => Err(Failure::Output),
+    }
 }
 
 /// Returns the microseconds since this instant, or 0 if the clock cannot be read.
@@ -219,13 +221,13 @@ fn micros_since(rt: &HostRuntime, start: io::Result<Instant>) -> u64 {
 fn send_commands<R: Source, W: Sink, O: LiveSink>(
     rt: &HostRuntime,
     talk: &mut Talk<'_, R, W>,
-    asking: &Asking<'_>,
+    request: &Request<'_, '_>,
     failures: &Failures,
     output: &mut O,
 ) -> Result<(), Failure> {
-    let alloc = rt.alloc();
-    if !asking.words.is_empty() {
-        return talk.send_words(alloc, asking.words.as_slice(), output);
+    let (alloc, asking) = (rt.alloc(), request.asking);
+    if !request.words.is_empty() {
+        return talk.send_words(alloc, request.words.clone()?, output);
     }
     let window = asking.options.window as u64;
     if is_typed(rt, asking) {

@@ -6,6 +6,7 @@
 mod asking;
 mod checking;
 mod failures;
+mod given_words;
 mod hints;
 mod hosts;
 mod input;
@@ -24,6 +25,7 @@ ghost use Rattle.std.specs.Prelude.{◌≤◌};
 
 use asking::run_ask;
 use failures::{Failures, Faults, StandardOutput, WatchedInput};
+use given_words::GivenWords;
 use hints::write_file_hint;
 use input::read_input;
 use listening::{run_proxy, run_serve, run_tap};
@@ -82,22 +84,41 @@ fn run(rt: &HostRuntime) -> Result<u8, AllocError> {
 fn run_with(rt: &HostRuntime, faults: &mut Faults<'_>) -> Result<u8, AllocError> {
     match env::args(rt) {
         Ok(words) => {
-            let words: Vec<String> = words.collect(rt.alloc())?;
-            let done = run_line(rt, words.as_slice(), faults);
+            let words = GivenWords::of_texts(words.collect(rt.alloc())?);
+            let done = run_line(rt, &words, faults);
             drop(words);
             done
         }
-        Err(error) => {
-            let status = refuse_words(error.kind(), &mut faults.lines);
-            let _ = rt.stderr().write_all(faults.lines.bytes());
-            Ok(status)
+        Err(error) => run_without_text(rt, error.kind(), faults),
+    }
+}
+
+/// Runs the command line, whose words can't be read as text: one is not UTF-8, or an allocation has
+/// failed. Returns the status.
+fn run_without_text(
+    rt: &HostRuntime,
+    kind: ErrorKind,
+    faults: &mut Faults<'_>,
+) -> Result<u8, AllocError> {
+    if kind == ErrorKind::InvalidData {
+        if let Some(words) = GivenWords::of_ask(rt)? {
+            let done = run_line(rt, &words, faults);
+            drop(words);
+            return done;
         }
     }
+    let status = refuse_words(kind, &mut faults.lines);
+    let _ = rt.stderr().write_all(faults.lines.bytes());
+    Ok(status)
 }
 
 /// Runs the command line of these words over standard output, and prints the error messages after the
 /// output. Returns the status.
-fn run_line(rt: &HostRuntime, words: &[String], faults: &mut Faults<'_>) -> Result<u8, AllocError> {
+fn run_line(
+    rt: &HostRuntime,
+    words: &GivenWords,
+    faults: &mut Faults<'_>,
+) -> Result<u8, AllocError> {
     let output = StandardOutput::new(rt.stdout(), faults.failures);
     let mut writer = Painted::new(Gathering::new(rt.alloc(), Device::new(output))?);
     let done = run_words(rt, words, &mut writer, faults);
@@ -127,12 +148,12 @@ fn refuse_output(rt: &HostRuntime, failures: &Failures) -> Result<u8, AllocError
 /// Runs the command line and returns the status.
 fn run_words<W: LiveSink>(
     rt: &HostRuntime,
-    words: &[String],
+    words: &GivenWords,
     writer: &mut Painted<W>,
     faults: &mut Faults<'_>,
 ) -> Result<u8, AllocError> {
     let failures = faults.failures;
-    match read_words(rt.alloc(), words, writer, &mut faults.lines) {
+    match read_words(rt.alloc(), words.texts(), writer, &mut faults.lines) {
         Ok(Invocation::Stream(options)) => {
             if options.task == Task::Show && !set_style(rt, &options.style, writer, faults) {
                 return Ok(BAD_ARGUMENTS);
@@ -158,7 +179,8 @@ fn run_words<W: LiveSink>(
                 return Ok(BAD_ARGUMENTS);
             }
             failures.set_explains(is_explained(rt, false, false));
-            run_ask(rt, &asking, writer, faults)
+            let command = words.of_command(rt.alloc(), &asking)?;
+            run_ask(rt, &asking, command, writer, faults)
         }
         Err(status) => Ok(status),
     }

@@ -11,11 +11,15 @@ pub mod Carrying
 pub mod Serving
 pub mod Joining
 pub mod Running
+pub mod Among
+pub mod Answered
+pub mod Standing
 pub mod Failing
 pub mod Alike
 pub mod Cells
 pub mod OneLine
 pub mod Zips
 pub mod Orders
+pub mod Wholes
 pub mod Releasing
 pub mod Replacing

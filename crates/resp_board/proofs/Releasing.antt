@@ -1,5 +1,5 @@
 -- The commands of a line are moved to another.
-use Rattle.std.proofs.Common.{arith, ◌≡◌, ◌≢◌, ◌⊎◌, ℕ, ◌≤◌, false, true, Err, Ok, OnErr, OnOk, Result, List, [], ◌∷◌, ◌++◌, drop, map, Option, None, Some, IfSome, is_some, slice_get, refl, sym, ap, subst, ◌∙◌, inl, inr}
+use Rattle.std.proofs.Common.{◌≡◌, ◌≢◌, ℕ, false, true, Err, Ok, OnErr, OnOk, Result, List, [], ◌++◌, drop, map, Option, None, Some, IfSome, is_some, slice_get, refl, sym, ap, subst, ◌∙◌, inl, inr}
 use Rattle.std.proofs.lemmas.Bool.{cases_eq}
 use Rattle.std.proofs.lemmas.List.{drop-append-le, map-append}
 use Rattle.resp_board.specs.declared.board.Board as declared

@@ -1,5 +1,5 @@
 -- Two lines are replaced.
-use Rattle.std.proofs.Common.{arith, ◌≡◌, ◌≢◌, ◌⊎◌, ℕ, zero, suc, List, [], ◌∷◌, Option, None, Some, IfSome, OnErr, OnOk, Result, Ok, Err, is_some, slice_get, slice_index_or, slice_set, true, refl, sym, ap, subst, ◌∙◌, inl, inr}
+use Rattle.std.proofs.Common.{arith, ◌≡◌, ◌≢◌, ℕ, zero, suc, List, [], ◌∷◌, Option, Some, IfSome, OnErr, OnOk, Result, Ok, Err, is_some, slice_get, slice_index_or, slice_set, true, refl, sym, ap, subst, ◌∙◌, inl, inr}
 use Rattle.std.proofs.lemmas.Bool.{cases_eq}
 use Rattle.resp_board.specs.declared.queue.Queue.{Queue}
 use Rattle.resp_board.specs.Queues.{HasQueued, KeepsQueued, Line, WhereQueued, nothing_queued, waiting_commands, with_commands}

@@ -11,6 +11,7 @@ pub mod Histories
 pub mod Differences
 pub mod Connections
 pub mod Orders
+pub mod Wholes
 pub mod Laws
 pub mod Joins
 pub mod Runs

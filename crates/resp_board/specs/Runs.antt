@@ -1,5 +1,6 @@
 -- The clients and lines of a board, and what it has run.
-use Rattle.std.specs.Prelude.{◌≡◌, ◌≢◌, ◌⊎◌, ℕ, ◌+◌, ◌<◌, ◌≤◌, Bool, false, true, List, [], count_by, length, map, Option, None, Some, IsSomeAnd, is_some, slice_get, if◌then◌else◌}
+use Rattle.std.specs.Prelude.{◌≡◌, ◌≢◌, ◌⊎◌, ℕ, ◌+◌, ◌<◌, ◌≤◌, Bool, false, true, List, [], ◌++◌, count_by, length, map, Option, None, Some, IsSomeAnd, is_some, slice_get, if◌then◌else◌}
+use Rattle.std.specs.List.{list_any}
 use Rattle.std.specs.Option.{option_map}
 use Rattle.resp_board.specs.declared.board.Board.{Board}
 use Rattle.resp_board.specs.declared.bounds.Bounds.{Bounds}
@@ -72,6 +73,10 @@ bounds_of m = m.bounds
 abbrev pub open_count : Board → ℕ
 open_count m = count_by is_some m.clients.slots
 
+-- the number of clients that were opened
+abbrev pub opened_count : Board → ℕ
+opened_count m = m.last
+
 -- the number of a client's commands from the first one without a reply on, if it is open
 abbrev pub waiting_count : Board → ClientId → Option ℕ
 waiting_count m who = option_map desk.waiting_count (desk_in m.clients.slots who)
@@ -122,6 +127,33 @@ pub record KeepsOpen (old new : Board) : Type 0 where
   pub lines : (line : ℕ) → has_line new line ≡ has_line old line
   pub last : new.last ≡ old.last
   pub bounds : new.bounds ≡ old.bounds
+
+-- each client has the bytes that it had
+abbrev pub KeepsBytes : Board → Board → Type 0
+KeepsBytes old new = (who : ClientId) → waiting_for new who ≡ waiting_for old who
+
+-- whether a client is one of these
+abbrev pub is_among : ClientId → List ClientId → Bool
+is_among who clients = list_any (is_same who) clients
+
+-- each client that is none of these has the bytes that it had
+abbrev pub KeepsAllBut : List ClientId → Board → Board → Type 0
+KeepsAllBut clients old new = (who : ClientId) → is_among who clients ≡ false → waiting_for new who ≡ waiting_for old who
+
+-- Nothing happened, each client has the bytes that it had, and the same commands wait on a line. A byte was sent of as many of them.
+pub record IsUnchanged (line : ℕ) (old new : Board) : Type 0 where
+  pub run : KeepsRun old new
+  pub bytes : KeepsBytes old new
+  pub clients : clients_on new line ≡ clients_on old line
+  pub begun : begun_on new line ≡ begun_on old line
+
+-- The first of the commands that waited on a line have their replies, at most this many of them. Each client of another command
+-- has the bytes that it had.
+pub record HasAnswered (line most : ℕ) (old new : Board) : Type 0 where
+  pub answered : List ClientId
+  pub first : clients_on old line ≡ answered ++ clients_on new line
+  pub few : length answered ≤ most
+  pub others : KeepsAllBut answered old new
 
 -- each other client has the bytes that it had
 abbrev pub KeepsOthers : ClientId → Board → Board → Type 0

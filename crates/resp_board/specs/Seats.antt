@@ -31,6 +31,10 @@ pub record ChangesSeat (old new : List (Option Seat)) (who : ClientId) (answers_
   pub itself : (answers : List (Option (List ℕ))) (given : List ℕ) → Serves old who answers given → Serves new who (answers_to answers) (given_to given)
   pub stays : is_some (desk_in new who) ≡ is_some (desk_in old who)
 
+-- each client has the bytes that it had
+abbrev pub SameBytes : List (Option Seat) → List (Option Seat) → Type 0
+SameBytes old new = (who : ClientId) → bytes_in new who ≡ bytes_in old who
+
 -- a client that was not open is open, without commands, and no other client changes
 pub record OpensSeat (old new : List (Option Seat)) (who : ClientId) : Type 0 where
   pub fresh : desk_in old who ≡ None

@@ -1,6 +1,6 @@
 //! Many clients over many lines.
 
-ghost use Rattle.std.specs.Prelude.{ℕ, ◌≡◌, ◌↔◌, ◌⊎◌, ◌++◌, ◌+◌, ◌<◌, ◌≤◌, ◌∷◌, [], None, false, true, length, take, IfOk, IfSome, IsErrOf, OnErr, OnOk, slice_get};
+ghost use Rattle.std.specs.Prelude.{ℕ, ◌≡◌, ◌↔◌, ◌⊎◌, ◌++◌, ◌+◌, ◌<◌, ◌≤◌, ◌∷◌, [], None, false, true, drop, length, take, IfOk, IfSome, IsErrOf, OnErr, OnOk, slice_get};
 ghost use Rattle.std.specs.List.{concat};
 ghost use Rattle.std.specs.Option.{option_map};
 ghost use Rattle.resp_board.specs.Boards.{Ask, Fail, Lose, Own, Release, Reply};
@@ -30,6 +30,10 @@ const MOST_CLIENTS: u64 = 9_223_372_036_854_775_807;
 ///
 /// This holds if the server of a line replies to the commands of a connection one by one, in order,
 /// and each reply is one call of [`Board::reply`].
+///
+/// Each call takes constant time, except that it copies the bytes that it is given, that
+/// [`Board::lose`], [`Board::fail`] and [`Board::release`] visit each command that they reply to or
+/// move, and that [`Board::sent`] visits each command that the bytes begin.
 #[derive(Drop)]
 pub struct Board {
     alloc: Global,
@@ -42,7 +46,7 @@ pub struct Board {
 }
 
 impl Board {
-    ghost use Rattle.resp_board.specs.Runs.{ClientIsFull, HasAnsweredSome, HasBegun, HasClosed, HasFailedSome, HasLostSome, HasNoCommandLeft, HasNoIdLeft, HasOneFewerBegun, HasOpened, HasOpenedLine, HasRun, HasRunSome, KeepsOpen, KeepsOthers, KeepsRun, LacksLine, LacksLines, LineIsFull, LineOverflows, Runs, WhereRun, begun_on, bounds_of, clients_on, has_line, open_count, unsent_on, waiting_count, waiting_for, waiting_on};
+    ghost use Rattle.resp_board.specs.Runs.{ClientIsFull, HasAnswered, HasAnsweredSome, HasBegun, HasClosed, HasFailedSome, HasLostSome, HasNoCommandLeft, HasNoIdLeft, HasOneFewerBegun, HasOpened, HasOpenedLine, HasRun, HasRunSome, IsUnchanged, KeepsBytes, KeepsOpen, KeepsOthers, KeepsRun, LacksLine, LacksLines, LineIsFull, LineOverflows, Runs, WhereRun, begun_on, bounds_of, clients_on, has_line, open_count, opened_count, unsent_on, waiting_count, waiting_for, waiting_on};
 
     /// Returns a board without clients and lines. Does not allocate.
     pub fn new(alloc: Global, bounds: Bounds) -> Board
@@ -197,11 +201,9 @@ impl Board {
             who ∷ clients_on self.new line.place) }
         ensures run { OnOk result (Runs (Reply line.place text.now) self.old self.new) }
         ensures unasked { IsErrOf result ReplyError.Unasked ↔ (begun_on self.old line.place ≡ 0) }
-        ensures unchanged { OnErr result (KeepsRun self.old self.new) }
+        ensures unchanged { OnErr result (IsUnchanged line.place self.old self.new) }
         ensures others { IfOk result (λ who. KeepsOthers who self.old self.new) }
         ensures fewer { OnOk result (HasOneFewerBegun line.place self.old self.new) }
-        ensures same_begun { OnErr result (begun_on self.new line.place ≡
-            begun_on self.old line.place) }
         ensures same_open { KeepsOpen self.old self.new }
     {
         let Some(ticket) = rows::first_begun(&self.lines, line.place) else {
@@ -227,6 +229,8 @@ impl Board {
             self.old self.new) }
         ensures some_answered { OnErr result (HasAnsweredSome line.place text.now
             self.old self.new) }
+        ensures answered { HasAnswered line.place (begun_on self.old line.place)
+            self.old self.new }
         ensures none_begun { OnOk result (begun_on self.new line.place ≡ 0) }
         ensures same_open { KeepsOpen self.old self.new }
     {
@@ -238,6 +242,8 @@ impl Board {
     /// Replies with this text to each command that waits on a line and of which a byte was sent.
     fn reply_to_begun(&mut self, line: LineId, text: &[u8]) -> Result<(), AllocError>
         ensures some_answered { HasAnsweredSome line.place text.now self.old self.new }
+        ensures answered { HasAnswered line.place (begun_on self.old line.place)
+            self.old self.new }
         ensures all { OnOk result (begun_on self.new line.place ≡ 0) }
         ensures same_open { KeepsOpen self.old self.new }
     {
@@ -259,6 +265,8 @@ impl Board {
         ensures run { OnOk result (Runs (Fail line.place text.now) self.old self.new) }
         ensures some_answered { OnErr result (HasAnsweredSome line.place text.now self.old self.new ⊎
             HasLostSome line.place text.now self.old self.new) }
+        ensures answered { HasAnswered line.place (length (waiting_on self.old line.place))
+            self.old self.new }
         ensures none_waits { OnOk result (waiting_on self.new line.place ≡ []) }
         ensures same_open { KeepsOpen self.old self.new }
     {
@@ -270,6 +278,8 @@ impl Board {
     fn reply_to_unbegun(&mut self, line: LineId, text: &[u8]) -> Result<(), AllocError>
         requires { begun_on self.old line.place ≡ 0 }
         ensures some_failed { HasFailedSome line.place text.now self.old self.new }
+        ensures answered { HasAnswered line.place (length (waiting_on self.old line.place))
+            self.old self.new }
         ensures none_waits { OnOk result (waiting_on self.new line.place ≡ []) }
         ensures same_open { KeepsOpen self.old self.new }
     {
@@ -284,9 +294,10 @@ impl Board {
         requires unbegun { begun_on self.old line.place ≡ 0 }
         requires some { 0 < length (waiting_on self.old line.place) }
         ensures run { OnOk result (Runs (Lose line.place 1 text.now) self.old self.new) }
-        ensures fewer { OnOk result (length (waiting_on self.new line.place) + 1 ≡
-            length (waiting_on self.old line.place)) }
-        ensures unchanged { OnErr result (KeepsRun self.old self.new) }
+        ensures rest { OnOk result (waiting_on self.new line.place ≡
+            drop 1 (waiting_on self.old line.place)) }
+        ensures answered { OnOk result (HasAnswered line.place 1 self.old self.new) }
+        ensures unchanged { OnErr result (IsUnchanged line.place self.old self.new) }
         ensures none_begun { begun_on self.new line.place ≡ 0 }
         ensures same_open { KeepsOpen self.old self.new }
     {
@@ -338,6 +349,17 @@ impl Board {
         }
     }
 
+    /// Returns the client of a command that waits on a line, by the number of commands that wait
+    /// there before it, or `None` if no more commands wait.
+    pub fn waiting_client(&self, line: LineId, before: usize) -> Option<ClientId>
+        ensures { result ≡ slice_get (clients_on self.now line.place) before }
+    {
+        match rows::waiting_at(&self.lines, line.place, before) {
+            Some(ticket) => Some(ticket.client),
+            None => None,
+        }
+    }
+
     /// Returns the number of commands that wait on a line.
     pub fn waiting(&self, line: LineId) -> usize
         ensures { result ≡ length (waiting_on self.now line.place) }
@@ -376,6 +398,8 @@ impl Board {
         requires { count ≤ length (unsent_on self.old line.place) }
         ensures run { WhereRun self.old (λ h. HasRun self.new
             (with_bytes line.place (take count (unsent_on self.old line.place)) h)) }
+        ensures same_waiting { waiting_on self.new line.place ≡ waiting_on self.old line.place }
+        ensures same_bytes { KeepsBytes self.old self.new }
         ensures same_open { KeepsOpen self.old self.new }
     {
         rows::send(&mut self.lines, line.place, count);
@@ -431,11 +455,19 @@ impl Board {
         self.clients.len()
     }
 
+    /// Returns the number of clients that were opened.
+    pub fn opened_clients(&self) -> u64
+        ensures { result ≡ opened_count self.now }
+    {
+        self.last
+    }
+
     /// Closes a client. No client gets the missing replies. Its commands are still sent. Nothing
     /// changes if the client is not open.
     pub fn close(&mut self, who: ClientId)
         ensures run { KeepsRun self.old self.new }
         ensures closed { HasClosed self.old self.new who }
+        ensures same_commands { (line : ℕ) → waiting_on self.new line ≡ waiting_on self.old line }
     {
         clients::close(&mut self.clients, who);
     }

@@ -3,7 +3,7 @@
 ghost use Rattle.std.specs.Prelude.{◌≡◌, ◌↔◌, ◌++◌, ◌∷◌, ◌≤◌, None, Some, [], length, take, unwrap_or, IfOk, IfSome, IsErrOf, IsSomeAnd, OnErr, OnOk, slice_set};
 ghost use Rattle.std.specs.Option.{option_map};
 ghost use Rattle.resp_board.specs.Desks.{Awaits, HasNoNumberLeft, out_of};
-ghost use Rattle.resp_board.specs.Seats.{ChangesSeat, ClosesSeat, OpensSeat, bytes_in, desk_in};
+ghost use Rattle.resp_board.specs.Seats.{ChangesSeat, ClosesSeat, OpensSeat, SameBytes, bytes_in, desk_in};
 
 use crate::desk::{Desk, DeskError};
 use crate::seat::Seat;
@@ -89,6 +89,7 @@ pub(crate) fn answer(
         (λ answers. slice_set answers ticket.number (Some text.now)) (λ given. given)) }
     ensures unchanged { OnErr result (ChangesSeat clients.old.slots clients.new.slots ticket.client
         (λ answers. answers) (λ given. given)) }
+    ensures same_bytes { OnErr result (SameBytes clients.old.slots clients.new.slots) }
 {
     let Some(seat) = clients.get_mut(ticket.client.place) else {
         return Ok(());

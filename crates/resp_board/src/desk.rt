@@ -106,6 +106,7 @@ impl Desk {
         ensures answered { OnOk result (WhereAnswered self.old (λ answers given.
             HasAnswers self.new (slice_set answers number (Some text.now)) given)) }
         ensures unchanged { OnErr result (KeepsAnswers self.old self.new) }
+        ensures same_bytes { OnErr result (out_of self.new ≡ out_of self.old) }
     {
         let place = number - self.done;
         self.take_answer(place, text)

@@ -2,6 +2,7 @@
 //! an empty body, so the check of that function proves it.
 
 ghost use Rattle.resp_board.specs.Laws.{AClientAloneGetsAll, APartWaitsOnce, AReplyIsItsOwnersAlone, ATicketFindsItsCommand, AnAnswerStays, EachReplyIsGiven, LinesKeepEachClientsOrder, OneLineIsAConnection, OneLineIsAZip, OthersAnswersChangeNothing};
+ghost use Rattle.resp_board.specs.Wholes.{TheServerIsAskedWholeCommands};
 
 /// After any events, a part of a command that waits has no reply, and it waits once, on one line.
 pub fn a_part_waits_once()
@@ -60,4 +61,10 @@ pub fn a_client_alone_gets_all()
 /// the line alone.
 pub fn lines_keep_each_clients_order()
     ensures { LinesKeepEachClientsOrder }
+{}
+
+/// If the texts that clients send are spellings of values, the bytes for each line are spellings of
+/// values, whole and in order.
+pub fn the_server_is_asked_whole_commands()
+    ensures { TheServerIsAskedWholeCommands }
 {}

@@ -69,6 +69,14 @@ impl Queue {
         self.waiting.front().copied()
     }
 
+    /// Returns the ticket of a command that waits for a reply, by the number of commands that wait
+    /// before it.
+    pub fn waiting_at(&self, before: usize) -> Option<Ticket>
+        ensures { result ≡ slice_get (waiting_tickets self.now) before }
+    {
+        self.waiting.get(before).copied()
+    }
+
     /// Returns the number of commands that wait for replies.
     pub fn waiting(&self) -> usize
         ensures { result ≡ length (waiting_tickets self.now) }

@@ -37,6 +37,17 @@ pub(crate) fn first(lines: &Vec<Queue>, line: usize) -> Option<Ticket>
     }
 }
 
+/// Returns the ticket of a command that waits on a line, by the number of commands that wait before
+/// it.
+pub(crate) fn waiting_at(lines: &Vec<Queue>, line: usize, before: usize) -> Option<Ticket>
+    ensures { result ≡ slice_get (tickets_in (slice_get lines.now.items line)) before }
+{
+    match lines.get(line) {
+        Some(queue) => queue.waiting_at(before),
+        None => None,
+    }
+}
+
 /// Returns the bytes that wait to be sent over a line. There are none if there is no such line.
 pub(crate) fn unsent(lines: &Vec<Queue>, line: usize) -> &[u8]
     ensures { result.now ≡ unsent_in (slice_get lines.now.items line) }
@@ -81,8 +92,10 @@ pub(crate) fn pop(lines: &mut Vec<Queue>, line: usize)
 /// Removes the first `count` bytes that wait to be sent over a line.
 pub(crate) fn send(lines: &mut Vec<Queue>, line: usize, count: usize)
     requires { count ≤ length (unsent_in (slice_get lines.old.items line)) }
-    ensures { ChangesLine lines.old.items lines.new.items line
+    ensures sent { ChangesLine lines.old.items lines.new.items line
         (with_sent (take count (unsent_in (slice_get lines.old.items line)))) }
+    ensures same_waiting { tickets_in (slice_get lines.new.items line) ≡
+        tickets_in (slice_get lines.old.items line) }
 {
     if let Some(queue) = lines.get_mut(line) {
         queue.sent(count);
@@ -109,8 +122,8 @@ pub(crate) fn remove_first(lines: &mut Vec<Queue>, line: usize)
     requires unbegun { begun_in (slice_get lines.old.items line) ≡ 0 }
     requires some { 0 < length (tickets_in (slice_get lines.old.items line)) }
     ensures removed { ChangesLine lines.old.items lines.new.items line without_first }
-    ensures fewer { length (tickets_in (slice_get lines.new.items line)) + 1 ≡
-        length (tickets_in (slice_get lines.old.items line)) }
+    ensures rest { tickets_in (slice_get lines.new.items line) ≡
+        drop 1 (tickets_in (slice_get lines.old.items line)) }
     ensures none_begun { begun_in (slice_get lines.new.items line) ≡ 0 }
 {
     if let Some(queue) = lines.get_mut(line) {

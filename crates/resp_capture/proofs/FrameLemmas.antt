@@ -1,7 +1,7 @@
 -- Blocks without a packet.
-use Rattle.std.proofs.Common.{rules, ◌≡◌, ℕ, List, Option, None, Some, Result, Ok, Err, arith, inl, inr, subst, sym}
+use Rattle.std.proofs.Common.{rules, ◌≡◌, ◌==◌, ◌||◌, true, true≢false, ℕ, List, Option, None, Some, Result, Ok, Err, arith, inl, inr, subst, sym}
 use Rattle.std.specs.Prelude.{IfNone, IfOk, OnErr}
-use Rattle.resp_capture.specs.Frames.{HasNo, HasRecord, IsEnhanced, IsFrame, IsSimple}
+use Rattle.resp_capture.specs.Frames.{HasNo, HasRecord, IsEnhanced, IsFrame, IsSimple, has_time}
 use Rattle.resp_capture.specs.Numbers.{number32}
 use Rattle.resp_capture.specs.Reading.{HasFrame, HasFrameIn}
 use Rattle.resp_capture.specs.declared.block.Format.{Format}
@@ -40,16 +40,18 @@ found_none {T} {E} P result found is fact = subst (λ (r : Result (Option T) E).
 pub failed : {T E : Type 0} (P : Type 0) (result : Result T E) (error : E) → result ≡ Err error → OnErr result P → P
 failed {T} {E} P result error is fact = subst (λ (r : Result T E). OnErr r P) is fact
 
--- an enhanced packet block is no simple one
-pub only_enhanced : (order : ByteOrder) (interfaces : List Interface) (block : List ℕ) → number32 order 0 block ≡ 6 →
+-- a block with a packet and its time is no simple one
+pub only_enhanced : (order : ByteOrder) (interfaces : List Interface) (block : List ℕ) → has_time order block ≡ true →
     HasNo (IsEnhanced order interfaces block) → HasNo (IsFrame order interfaces block)
-only_enhanced order interfaces block is lacks frame (inl enhanced) = lacks frame enhanced
-only_enhanced order interfaces block is lacks frame (inr simple) = omega (arith, is, simple.kind)
+only_enhanced order interfaces block timed lacks frame (inl enhanced) = lacks frame enhanced
+only_enhanced order interfaces block timed lacks frame (inr simple) =
+    true≢false (sym (subst (λ (kind : ℕ). (kind == 6) || (kind == 2) ≡ true) simple.kind timed))
 
--- a simple packet block is no enhanced one
+-- a simple packet block has no time
 pub only_simple : (order : ByteOrder) (interfaces : List Interface) (block : List ℕ) → number32 order 0 block ≡ 3 →
     HasNo (IsSimple order interfaces block) → HasNo (IsFrame order interfaces block)
-only_simple order interfaces block is lacks frame (inl enhanced) = omega (arith, is, enhanced.kind)
+only_simple order interfaces block is lacks frame (inl enhanced) =
+    true≢false (sym (subst (λ (kind : ℕ). (kind == 6) || (kind == 2) ≡ true) is enhanced.kind))
 only_simple order interfaces block is lacks frame (inr simple) = lacks frame simple
 
 -- a capture of this format has no packet

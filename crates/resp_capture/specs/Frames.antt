@@ -1,5 +1,5 @@
 -- The packets in the blocks of a capture, and the interfaces that its blocks describe.
-use Rattle.std.specs.Prelude.{◌≡◌, ◌⊎◌, ℕ, ◌+◌, ◌-◌, ◌*◌, ◌/◌, ◌%◌, ◌^◌, ◌<◌, ◌≤◌, ◌==◌, ◌||◌, zero, suc, ℤ, pos, ◌+ℤ◌, List, Option, None, Some, drop, if◌then◌else◌, length, ltb, min, slice_get, slice_index, slice_range}
+use Rattle.std.specs.Prelude.{◌≡◌, ◌⊎◌, ℕ, ◌+◌, ◌-◌, ◌*◌, ◌/◌, ◌%◌, ◌^◌, ◌<◌, ◌≤◌, ◌==◌, ◌||◌, Bool, true, zero, suc, ℤ, pos, ◌+ℤ◌, List, Option, None, Some, drop, if◌then◌else◌, length, ltb, min, slice_get, slice_index, slice_range}
 use Rattle.std.specs.Int.{cast_signed, saturate_unsigned, w64}
 use Rattle.resp_capture.specs.Headers.{link_of}
 use Rattle.resp_capture.specs.Numbers.{number16, number32, number64}
@@ -95,15 +95,23 @@ abbrev pub HasRecord : ByteOrder → List Interface → List ℕ → CapturedPac
 HasRecord order interfaces block frame = (interface : Interface) × (slice_get interfaces 0 ≡ Some interface) ×
     IsRecord order interface block frame
 
--- the ticks at which the packet of an enhanced packet block was captured
+-- the block has a packet and its time: it is an enhanced packet block, or the older packet block
+abbrev pub has_time : ByteOrder → List ℕ → Bool
+has_time order block = (number32 order 0 block == 6) || (number32 order 0 block == 2)
+
+-- the number of the interface of the packet of such a block; in the older one it has 16 bits
+abbrev pub interface_in : ByteOrder → List ℕ → ℕ
+interface_in order block = if number32 order 0 block == 2 then number16 order 8 block else number32 order 8 block
+
+-- the ticks at which the packet of such a block was captured
 abbrev pub ticks_in : ByteOrder → List ℕ → ℕ
 ticks_in order block = number32 order 12 block * 4294967296 + number32 order 16 block
 
--- the packet of an enhanced packet block, of one of these interfaces
+-- the packet of a block with a packet and its time, of one of these interfaces
 pub record IsEnhanced (order : ByteOrder) (interfaces : List Interface) (block : List ℕ) (frame : CapturedPacket) : Type 0 where
-  pub kind : number32 order 0 block ≡ 6
+  pub kind : has_time order block ≡ true
   pub interface : Interface
-  pub has_interface : slice_get interfaces (number32 order 8 block) ≡ Some interface
+  pub has_interface : slice_get interfaces (interface_in order block) ≡ Some interface
   pub has_ticks : 0 < interface.per_second
   pub time : Time
   pub has_time : frame.time ≡ Some time
@@ -153,7 +161,7 @@ fault_of_simple (Some interface) = None
 -- why the packet of a whole block of the format pcapng cannot be read; nothing if it can, or the block has no packet
 abbrev pub fault_of_frame : ByteOrder → List Interface → List ℕ → Option Reason
 fault_of_frame order interfaces block = if ltb (length block) 12 then Some WrongLength else
-    (if number32 order 0 block == 6 then (if ltb (length block) 32 then Some WrongLength else
-    fault_of_enhanced order (slice_get interfaces (number32 order 8 block)) block) else
+    (if has_time order block then (if ltb (length block) 32 then Some WrongLength else
+    fault_of_enhanced order (slice_get interfaces (interface_in order block)) block) else
     (if number32 order 0 block == 3 then (if ltb (length block) 16 then Some WrongLength else
     fault_of_simple (slice_get interfaces 0)) else None))

@@ -2,7 +2,7 @@
 
 ghost use Rattle.std.specs.Prelude.{◌≡◌, ◌+◌, ◌<◌, ◌≤◌, ◌++◌, [], ◌∷◌, true, false, length, slice_get, IfErr, IfNone, IfOk, OnOk};
 ghost use Rattle.std.specs.Prelude.{◌⊎◌, None, Some, IfSome, OnErr};
-ghost use Rattle.resp_capture.specs.Frames.{HasNo, HasRecord, IsEnhanced, IsFrame, IsSimple, IsTimeOn, fault_of_frame, fault_of_record, simple_count, ticks_in};
+ghost use Rattle.resp_capture.specs.Frames.{HasNo, HasRecord, IsEnhanced, IsFrame, IsSimple, IsTimeOn, fault_of_frame, fault_of_record, has_time, interface_in, simple_count, ticks_in};
 ghost use Rattle.resp_capture.specs.Numbers.{number32};
 ghost use Rattle.resp_capture.specs.Blocks.{magic_of};
 ghost use Rattle.resp_capture.specs.Reading.{HasFrame, HasNoFault, InterfacesAfter, InterfacesAfterBlock, IsAtEnd, IsNotReadOn, ReadsBlock, StopsAt, begun_bytes, end_fault, failure_of, fault_of, fault_of_block, fault_of_pcapng, format_after, format_after_block, next_at, packet_fault};
@@ -12,12 +12,15 @@ use crate::block::{Format, SECTION, block_size, magic_of, section_order};
 use crate::error::{CaptureError, Reason};
 use crate::interface::Interface;
 use crate::link::LinkType;
-use crate::number::{ByteOrder, number32};
+use crate::number::{ByteOrder, number16, number32};
 use crate::time::{Time, time_of};
 use std::alloc::Global;
 
 /// The type of a pcapng block that describes an interface.
 const INTERFACE: u32 = 1;
+
+/// The type of a pcapng block with a packet that older programs write.
+const OLD_PACKET: u32 = 2;
 
 /// The type of a pcapng block with a packet and no time.
 const SIMPLE: u32 = 3;
@@ -394,18 +397,32 @@ fn frame_of<'a>(
     }
     match number32(order, block, 0) {
         ENHANCED => enhanced_of(order, interfaces, block),
+        OLD_PACKET => enhanced_of(order, interfaces, block),
         SIMPLE => simple_of(order, interfaces, block),
         _ => Ok(None),
     }
 }
 
-/// Returns the packet of an enhanced packet block.
+/// Returns the number of the interface of the packet of a block. In the older packet block it has 16
+/// bits, before the number of packets that were lost.
+fn interface_in(order: ByteOrder, block: &[u8]) -> usize
+    requires { 12 ≤ length block.now }
+    ensures { result ≡ interface_in order block.now }
+{
+    if number32(order, block, 0) == OLD_PACKET {
+        number16(order, block, 8) as usize
+    } else {
+        number32(order, block, 8) as usize
+    }
+}
+
+/// Returns the packet of an enhanced packet block, or of the older packet block.
 fn enhanced_of<'a>(
     order: ByteOrder,
     interfaces: &[Interface],
     block: &'a [u8],
 ) -> Result<Option<CapturedPacket<'a>>, Reason>
-    requires kind { number32 order 0 block.now ≡ 6 }
+    requires kind { has_time order block.now ≡ true }
     requires whole { 12 ≤ length block.now }
     ensures frame { IfOk result (λ found. IfSome found (IsEnhanced order interfaces.now block.now)) }
     ensures none { IfOk result (λ found. IfNone found
@@ -418,7 +435,7 @@ fn enhanced_of<'a>(
     if block.len() < 32 {
         return Err(Reason::WrongLength);
     }
-    let Some(interface) = interfaces.get(number32(order, block, 8) as usize) else {
+    let Some(interface) = interfaces.get(interface_in(order, block)) else {
         return Err(Reason::UnknownInterface);
     };
     let count = number32(order, block, 20) as usize;
@@ -443,7 +460,7 @@ fn time_on(interface: Interface, ticks: u64) -> Time
     }
 }
 
-/// Returns the packet with these bytes of an enhanced packet block, if its link is read.
+/// Returns the packet with these bytes of a block with a packet and its time, if its link is read.
 fn with_time<'a>(
     order: ByteOrder,
     interface: Interface,

@@ -203,9 +203,9 @@ asking_options = short_flag_option (codes "three") 51 ∷ name_option (codes "us
     number_option (codes "window") 1 65536 (codes "1000") ∷ time_option (codes "timeout") (codes "0") ∷
     flag_option (codes "raw") ∷ flag_option (codes "count") ∷ style_options ++ flag_option (codes "json") ∷ []
 
--- the address of the server, and the words of a command
+-- the address of the server, after which no word is an option, and the words of a command
 abbrev pub server_and_words : List Rule
-server_and_words = address_word (codes "server") ∷ command_word ∷ []
+server_and_words = record (address_word (codes "server")) { trailing_var_arg = true } ∷ command_word ∷ []
 
 -- the options of `ask`
 abbrev pub ask_options : List Rule

@@ -34,6 +34,7 @@ with_form form.Text name rule = record rule { long = Some name }
 with_form (form.Between least most) name rule = record rule { long = Some name; parser = Some (numbers_between least most) }
 with_form (form.OneOf texts) name rule = record rule { long = Some name; parser = Some (vp.Names texts) }
 with_form form.Word name rule = rule
+with_form form.LastBeforeRest name rule = record rule { trailing_var_arg = true }
 with_form form.Rest name rule = record rule {
   range = Some (record { start_inclusive = 1; end_inclusive = usize_max });
   trailing_var_arg = true;

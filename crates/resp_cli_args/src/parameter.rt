@@ -51,6 +51,8 @@ pub(crate) enum Form {
     OneOf(&'static [&'static str]),
     /// A word.
     Word,
+    /// A word after which no word is an option, even if it begins with a dash.
+    LastBeforeRest,
     /// A word and all words after it, even if they begin with a dash.
     Rest,
 }
@@ -107,6 +109,7 @@ fn written<'a>(alloc: Global, parameter: &Parameter) -> Arg<'a>
             .value_parser(clap::value_parser!(u64).range(least..=most)),
         Form::OneOf(texts) => arg.long(name).value_parser(texts),
         Form::Word => arg,
+        Form::LastBeforeRest => arg.trailing_var_arg(true),
         Form::Rest => arg.num_args(1..).trailing_var_arg(true),
     }
 }

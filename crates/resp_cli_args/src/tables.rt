@@ -6,7 +6,7 @@ ghost use Rattle.resp_cli_args.specs.Program.{TakesVersions, asking_options, cli
 ghost use Rattle.resp_cli_args.specs.Tables.{parameter_rule};
 
 use crate::options::STANDARD_INPUT;
-use crate::parameter::Form::{Between, OneOf, Rest, ShortFlag, Text, Word};
+use crate::parameter::Form::{Between, LastBeforeRest, OneOf, Rest, ShortFlag, Text, Word};
 use crate::parameter::{PLAIN, Parameter};
 
 /// The greatest limit of items, and the greatest number of a client.
@@ -667,7 +667,10 @@ pub(crate) fn words() -> &'static [Parameter]
 
 /// The parameters of [`words`].
 const WORDS: &[Parameter] = &[
-    SERVER,
+    Parameter {
+        form: LastBeforeRest,
+        ..SERVER
+    },
     Parameter {
         name: "words",
         form: Rest,

@@ -93,6 +93,11 @@ impl Failure {
         matches!(self, Failure::Ask(ExchangeError::Read) | Failure::Input)
     }
 
+    /// Returns whether a write of the output failed.
+    pub fn is_of_output(&self) -> bool {
+        matches!(self, Failure::Ask(ExchangeError::Output) | Failure::Output)
+    }
+
     /// Returns whether a write failed.
     pub fn is_of_write(&self) -> bool {
         matches!(

@@ -155,10 +155,10 @@ impl<'a, R: Source, W: Sink> Talk<'a, R, W> {
     pub fn send_words<O: Sink>(
         &mut self,
         alloc: Global,
-        words: &[&str],
+        words: Vec<Vec<u8>>,
         output: &mut O,
     ) -> Result<(), Failure> {
-        let command = command_of(alloc, words)?;
+        let command = command_of(words)?;
         match self.send(&command, output) {
             Err(ExchangeError::Refused(error)) => Err(refused(
                 alloc,
@@ -289,14 +289,14 @@ impl<'a, R: Source, W: Sink> Talk<'a, R, W> {
 /// Returns the command AUTH.
 fn auth(alloc: Global, user: Option<&str>, password: &str) -> Result<Command, Failure> {
     match user {
-        Some(user) => command_of(alloc, &["AUTH", user, password]),
-        None => command_of(alloc, &["AUTH", password]),
+        Some(user) => command_of(bytes_of(alloc, &["AUTH", user, password])?),
+        None => command_of(bytes_of(alloc, &["AUTH", password])?),
     }
 }
 
 /// Returns the command with these words. There is at least one word.
-fn command_of(alloc: Global, words: &[&str]) -> Result<Command, Failure> {
-    match Command::new(bytes_of(alloc, words)?) {
+fn command_of(words: Vec<Vec<u8>>) -> Result<Command, Failure> {
+    match Command::new(words) {
         Ok(command) => Ok(command),
         Err(_) => Err(Failure::Ask(ExchangeError::Refused(SendError::BadCommand))),
     }

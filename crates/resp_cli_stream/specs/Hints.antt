@@ -1,7 +1,7 @@
 -- Likely reasons for a byte that the grammar does not allow, and their sentences. `before` are the bytes of the value
 -- before the refused byte, `from` are the bytes from it on.
-use Rattle.std.specs.Prelude.{◌≡◌, ◌⊎◌, ◌<◌, ◌==◌, ℕ, true, List, [], ◌∷◌, ◌++◌, if◌then◌else◌, length, codes, decimal, Option, Some, None}
-use Rattle.std.specs.Char.{is_ascii_alphabetic, is_ascii_digit}
+use Rattle.std.specs.Prelude.{◌≡◌, ◌⊎◌, ◌<◌, ◌==◌, ℕ, Bool, true, List, [], ◌∷◌, ◌++◌, if◌then◌else◌, length, codes, decimal, Option, Some, None}
+use Rattle.std.specs.Char.{is_ascii_alphabetic}
 use Rattle.std.specs.List.{AllByRecursion, Contains, list_any}
 use Rattle.std.specs.Str.{byte}
 use Rattle.resp_cli_stream.specs.declared.hint.Clue.{Clue}
@@ -22,20 +22,28 @@ abbrev pub BeginsWithLetter : List ℕ → Type 0
 BeginsWithLetter [] = ⊥
 BeginsWithLetter (b ∷ rest) = is_ascii_alphabetic b ≡ true
 
--- the bytes end with one of these bytes
+-- the byte is one of these
+abbrev pub is_one_of : List ℕ → ℕ → Bool
+is_one_of bytes byte = list_any (λ b. b == byte) bytes
+
+-- the bytes end with one of these marks
 pub record EndsWithMark (marks before : List ℕ) : Type 0 where
   pub front : List ℕ
   pub mark : ℕ
-  pub is_mark : list_any (λ b. b == mark) marks ≡ true
+  pub is_mark : is_one_of marks mark ≡ true
   pub whole : before ≡ front ++ mark ∷ []
 
--- the bytes end with one of these bytes and digits after it
-pub record EndsWithNumber (marks before : List ℕ) : Type 0 where
+-- the bytes end with one of these marks, and after it any number of bytes that are some of these digits
+pub record EndsWithAny (digits marks before : List ℕ) : Type 0 where
   pub front : List ℕ
   pub has_mark : EndsWithMark marks front
-  pub digits : List ℕ
-  pub are_digits : AllByRecursion (λ b. is_ascii_digit b ≡ true) digits
-  pub whole : before ≡ front ++ digits
+  pub last : List ℕ
+  pub are_digits : AllByRecursion (λ b. is_one_of digits b ≡ true) last
+  pub whole : before ≡ front ++ last
+
+-- the bytes end with one of these bytes and digits after it
+abbrev pub EndsWithNumber : List ℕ → List ℕ → Type 0
+EndsWithNumber marks before = EndsWithAny (codes "0123456789") marks before
 
 -- the type bytes of strings whose length is counted, and of a chunk
 abbrev pub length_marks : List ℕ
@@ -84,10 +92,10 @@ IsFirstOf list before from (Some c) = (earlier later : List Clue) × (list ≡ e
     × ((other : Clue) → Contains earlier other → Shows other before from → ⊥)
 IsFirstOf list before from None = (other : Clue) → Contains list other → Shows other before from → ⊥
 
--- the bytes end with the type byte of a string, this length and CR LF
+-- the bytes end with the type byte of a string, this length, which may have leading zeros, and CR LF
 pub record EndsWithLength (size : ℕ) (head : List ℕ) : Type 0 where
   pub front : List ℕ
-  pub has_mark : EndsWithMark length_marks front
+  pub has_mark : EndsWithAny (codes "0") length_marks front
   pub whole : head ≡ front ++ (decimal size ++ 13 ∷ 10 ∷ [])
 
 -- the bytes end with the complete content of a string of this length, without the CR LF after it

@@ -1,10 +1,9 @@
 //! Finds a likely reason for a byte that the grammar does not allow.
 
 ghost use Rattle.std.specs.Prelude.{◌≡◌, ◌↔◌, ◌<◌, ℕ, true, false, IfSome, IsNone, get_or};
-ghost use Rattle.std.specs.Char.{is_ascii_digit};
 ghost use Rattle.std.specs.List.{AllByRecursion};
 ghost use Rattle.resp_print.specs.Written.{WritesText};
-ghost use Rattle.resp_cli_stream.specs.Hints.{Begins, BeginsWithLetter, Ends, EndsWithContent, EndsWithLength, EndsWithMark, EndsWithNumber, IsFirstOf, IsHint, Shows, clue_line, clues, hint_line, version_text};
+ghost use Rattle.resp_cli_stream.specs.Hints.{Begins, BeginsWithLetter, Ends, EndsWithAny, EndsWithContent, EndsWithLength, IsFirstOf, IsHint, Shows, clue_line, clues, hint_line, is_one_of, version_text};
 
 use itoa::Buffer;
 use resp_io::device::{DeviceFault, Sink};
@@ -87,6 +86,9 @@ const CLUES: [Clue; 24] = [
     Clue::Length,
     Clue::Count,
 ];
+
+/// The digits of a number.
+const DIGITS: &[u8] = b"0123456789";
 
 /// The type bytes of strings whose length is counted, and of a chunk.
 const LENGTH_MARKS: &[u8] = b"$!=;";
@@ -235,10 +237,10 @@ fn shows(clue: Clue, before: &[u8], from: &[u8]) -> bool
         Clue::Negative => ends(before, b"$-") || ends(before, b"*-"),
         Clue::Null => ends(before, b"_"),
         Clue::Boolean => ends(before, b"#"),
-        Clue::Integer => ends_with_number(before, b":"),
-        Clue::BigNumber => ends_with_number(before, b"("),
-        Clue::Length => ends_with_number(before, LENGTH_MARKS),
-        Clue::Count => ends_with_number(before, b"*%~>|"),
+        Clue::Integer => ends_with_any(before, b":", DIGITS),
+        Clue::BigNumber => ends_with_any(before, b"(", DIGITS),
+        Clue::Length => ends_with_any(before, LENGTH_MARKS, DIGITS),
+        Clue::Count => ends_with_any(before, b"*%~>|", DIGITS),
     }
 }
 
@@ -256,19 +258,26 @@ fn ends(before: &[u8], text: &[u8]) -> bool
     before.ends_with(text)
 }
 
-/// Returns whether the last byte that is not a digit is one of these marks. No mark is a digit.
-fn ends_with_number(before: &[u8], marks: &[u8]) -> bool
-    requires no_digits { AllByRecursion (λ b. is_ascii_digit b ≡ false) marks.now }
-    ensures { (result ≡ true) ↔ EndsWithNumber marks.now before.now }
+/// Returns whether the last byte that is none of `digits` is one of these marks. No mark is a digit.
+fn ends_with_any(before: &[u8], marks: &[u8], digits: &[u8]) -> bool
+    requires no_digits { AllByRecursion (λ b. is_one_of digits.now b ≡ false) marks.now }
+    ensures { (result ≡ true) ↔ EndsWithAny digits.now marks.now before.now }
 {
     let mut rest = before;
     while let Some((byte, front)) = rest.split_last() {
-        if !byte.is_ascii_digit() {
-            return marks.contains(byte);
+        if !is_one_of(*byte, digits) {
+            return is_one_of(*byte, marks);
         }
         rest = front;
     }
     false
+}
+
+/// Returns whether a byte is one of these.
+fn is_one_of(byte: u8, bytes: &[u8]) -> bool
+    ensures { result ≡ is_one_of bytes.now byte }
+{
+    bytes.contains(&byte)
 }
 
 /// Returns whether the first byte is a letter.
@@ -279,8 +288,8 @@ fn begins_with_letter(from: &[u8]) -> bool
 }
 
 /// Returns the length of the string content at the end of the bytes, or `None` if they do not end
-/// with the type byte of a string, a length, CR LF and that many bytes. If several lengths are
-/// possible, returns the greatest.
+/// with the type byte of a string, a length, CR LF and that many bytes. The length may have leading
+/// zeros. If several lengths are possible, returns the greatest.
 fn length_before(before: &[u8]) -> Option<usize>
     ensures found { IfSome result (λ length. EndsWithContent length before.now) }
     ensures longest { IfSome result (λ length. (other : ℕ) → length < other →
@@ -298,7 +307,8 @@ fn length_before(before: &[u8]) -> Option<usize>
     None
 }
 
-/// Returns whether the bytes end with the type byte of a string, this length and CR LF.
+/// Returns whether the bytes end with the type byte of a string, this length and CR LF. The length may
+/// have leading zeros.
 fn ends_with_length(head: &[u8], length: usize) -> bool
     ensures { (result ≡ true) ↔ EndsWithLength length head.now }
 {
@@ -306,16 +316,9 @@ fn ends_with_length(head: &[u8], length: usize) -> bool
     let digits = buffer.format(length as u64).as_bytes();
     match head.strip_suffix(b"\r\n") {
         Some(line) => match line.strip_suffix(digits) {
-            Some(front) => ends_with_mark(front, LENGTH_MARKS),
+            Some(front) => ends_with_any(front, LENGTH_MARKS, b"0"),
             None => false,
         },
         None => false,
     }
-}
-
-/// Returns whether the last byte is one of these.
-fn ends_with_mark(before: &[u8], marks: &[u8]) -> bool
-    ensures { (result ≡ true) ↔ EndsWithMark marks.now before.now }
-{
-    before.last().is_some_and(|byte| marks.contains(byte))
 }

@@ -1,9 +1,11 @@
 -- What painted texts show, one after another.
-use Rattle.std.proofs.Common.{◌≡◌, ◌≢◌, ◌∙◌, ℕ, ◌<◌, ◌==◌, false, true, cond, nat_lt, List, [], ◌∷◌, ◌++◌, Option, ap, sym, refl, subst, append_assoc, append-nil, arith}
+use Rattle.std.proofs.Common.{◌≡◌, ◌∙◌, ℕ, List, [], ◌++◌, Option, ap, sym, refl, subst, append_assoc, append-nil}
 use Rattle.resp_io.specs.Devices.{Appends}
 use Rattle.resp_print.proofs.WrittenLemmas.{Appends-append, Appends-none}
-use Rattle.resp_paint.specs.Plain.{Shows, beyond_sequence, plain_text, shown_byte}
+use Rattle.resp_paint.specs.Plain.{Shows, plain_text}
 use Rattle.resp_paint.specs.Paints.{Paints}
+use Rattle.resp_paint.specs.Waiting.{Waits}
+use Rattle.resp_paint.specs.declared.style.Style.{Style}
 
 -- no text shows no text
 pub shows_none : Shows [] []
@@ -64,3 +66,7 @@ pub paints_all : (before after : Option (List ℕ)) (held text held' painted her
 paints_all before after held text held' painted here there whole pushed same same' is is' shows appended none =
     paints_now before after held text held' painted (subst (Appends before after) same' appended)
     (subst (λ z. Shows painted z) (is ∙ is') (subst (λ z. Shows z whole) same shows)) none
+
+-- bytes that wait in a style wait in the same style
+pub waits_in : (before after : Style) (held : List ℕ) → before ≡ after → Waits before held → Waits after held
+waits_in before after held same waits = subst (λ style. Waits style held) same waits

@@ -1,2 +1,3 @@
 pub mod Plain
 pub mod Paints
+pub mod Waiting

@@ -2,6 +2,7 @@
 
 ghost use Rattle.std.specs.Prelude.{◌≡◌, ◌≤◌, ◌∷◌, [], false, true, length, None, IfOk, OnOk};
 ghost use Rattle.resp_paint.specs.Paints.{Paints, is_plain_style};
+ghost use Rattle.resp_paint.specs.Waiting.{Waits};
 ghost use Rattle.resp_io.specs.Live.{flush_fails};
 ghost use Rattle.resp_io.specs.Devices.{Writes, count_after, failures_after, write_fails};
 
@@ -17,7 +18,8 @@ use resp_print::text::write_text;
 ///
 /// Without the sequences that switch colors, and with an escape in place of each byte that is not
 /// ASCII, the printed text is the text that was written to this sink. The bytes of a character wait
-/// for its end, up to 16 bytes. A text with a byte that is not ASCII, or with the byte 27, which
+/// for its end, fewer than 16 bytes, and with colors the first bytes of a line, fewer than eight. A
+/// text with a byte that is not ASCII, or with the byte 27, which
 /// begins a sequence, is rejected: the write fails.
 ///
 /// In the style [`Style::PLAIN`] each write is passed on.
@@ -33,7 +35,10 @@ pub struct Painted<W> {
 
 impl<W> Painted<W> {
     /// Returns a sink in the style [`Style::PLAIN`].
-    pub fn new(inner: W) -> Self {
+    pub fn new(inner: W) -> Self
+        ensures plain { is_plain_style result.painter.style ≡ true }
+        ensures nothing_waits { result.held.items ≡ [] }
+    {
         Painted {
             inner,
             painter: Painter::new(Style::PLAIN),
@@ -44,7 +49,10 @@ impl<W> Painted<W> {
     }
 
     /// Sets the style. The next text begins a line.
-    pub fn set_style(&mut self, style: Style) {
+    pub fn set_style(&mut self, style: Style)
+        ensures style { self.new.painter.style ≡ style }
+        ensures same_held { self.new.held.items ≡ self.old.held.items }
+    {
         self.painter = Painter::new(style);
     }
 
@@ -68,6 +76,9 @@ impl<W: Sink> Painted<W> {
         ensures painted { is_plain_style self.old.painter.style ≡ false → IfOk result (λ n.
             (n ≡ length from.now) × Paints (W.written self.old.inner) (W.written self.new.inner)
             self.old.held.items from.now self.new.held.items) }
+        ensures waits { Waits self.old.painter.style self.old.held.items →
+            OnOk result (Waits self.old.painter.style self.new.held.items) }
+        ensures same_style { self.new.painter.style ≡ self.old.painter.style }
         ensures same_calls { self.new.calls ≡ self.old.calls }
         ensures same_failures { self.new.failures ≡ self.old.failures }
     {
@@ -84,6 +95,9 @@ impl<W: Sink> Painted<W> {
     fn paint(&mut self, text: &[u8]) -> Result<(), DeviceFault>
         ensures paints { OnOk result (Paints (W.written self.old.inner)
             (W.written self.new.inner) self.old.held.items text.now self.new.held.items) }
+        ensures waits { Waits self.old.painter.style self.old.held.items →
+            OnOk result (Waits self.old.painter.style self.new.held.items) }
+        ensures same_style { self.new.painter.style ≡ self.old.painter.style }
         ensures same_calls { self.new.calls ≡ self.old.calls }
         ensures same_failures { self.new.failures ≡ self.old.failures }
     {
@@ -101,6 +115,8 @@ impl<W: Sink> Painted<W> {
     fn paint_byte(&mut self, byte: u8) -> Result<(), DeviceFault>
         ensures paints { OnOk result (Paints (W.written self.old.inner)
             (W.written self.new.inner) self.old.held.items (byte ∷ []) self.new.held.items) }
+        ensures waits { OnOk result (Waits self.old.painter.style self.new.held.items) }
+        ensures same_style { self.new.painter.style ≡ self.old.painter.style }
         ensures same_calls { self.new.calls ≡ self.old.calls }
         ensures same_failures { self.new.failures ≡ self.old.failures }
     {
@@ -108,8 +124,9 @@ impl<W: Sink> Painted<W> {
             Ok(()) => {}
             Err(_) => return Err(DeviceFault),
         }
-        let Paint::Now(painted) = self.painter.next(self.held.as_slice()) else {
-            return Ok(());
+        let painted = match self.painter.next(self.held.as_slice()) {
+            Paint::Later => return Ok(()),
+            Paint::Now(painted) => painted,
         };
         if !shows(painted.as_slice(), self.held.as_slice()) {
             return Err(DeviceFault);
@@ -141,6 +158,9 @@ impl<W: Sink> Sink for Painted<W> {
         ensures painted { is_plain_style self.old.painter.style ≡ false → IfOk result (λ n.
             (n ≡ length from.now) × Paints (W.written self.old.inner) (W.written self.new.inner)
             self.old.held.items from.now self.new.held.items) }
+        ensures waits { Waits self.old.painter.style self.old.held.items →
+            OnOk result (Waits self.old.painter.style self.new.held.items) }
+        ensures same_style { self.new.painter.style ≡ self.old.painter.style }
     {
         self.calls = self.calls.saturating_add(1);
         match self.print(from) {

@@ -1,6 +1,7 @@
 //! Colors and characters for the bytes of printed text, one byte after another.
 
-ghost use Rattle.std.specs.Prelude.{◌≡◌, ◌<◌};
+ghost use Rattle.std.specs.Prelude.{◌≡◌, ◌++◌, ◌<◌, ℕ, List, true, codes};
+ghost use Rattle.resp_paint.specs.Waiting.{MayWait, OnLater};
 
 use crate::color::Color;
 use crate::place::{LinePlace, color_of_heading, may_be_heading};
@@ -36,7 +37,9 @@ pub(crate) struct Painter {
 
 impl Painter {
     /// Returns the state at the beginning of a line.
-    pub(crate) fn new(style: Style) -> Self {
+    pub(crate) fn new(style: Style) -> Self
+        ensures { result.style ≡ style }
+    {
         Painter {
             style,
             place: LinePlace::Start,
@@ -50,11 +53,15 @@ impl Painter {
         self.style
     }
 
-    /// Returns what is printed for the bytes that wait, after one more byte was added to them.
-    pub(crate) fn next(&mut self, held: &[u8]) -> Paint {
+    /// Returns what is printed for the bytes that wait, after one more byte was added to them. Only the
+    /// bytes with which a character or the heading of a line begins wait.
+    pub(crate) fn next(&mut self, held: &[u8]) -> Paint
+        ensures waits { OnLater result (MayWait self.old.style held.now) }
+        ensures same_style { self.new.style ≡ self.old.style }
+    {
         if self.style.utf8 && self.place.is_quoted() && may_be_character(held) {
             let bytes = escaped_bytes(held);
-            if !is_whole(held, &bytes) {
+            if held.len() < MOST_HELD && !is_whole(held, &bytes) {
                 return Paint::Later;
             }
             if is_printable(&bytes) {
@@ -75,25 +82,31 @@ impl Painter {
     }
 
     /// Returns a heading in the color of its line.
-    fn heading(&mut self, held: &[u8], color: Color) -> ArrayVec<u8, MOST_PAINTED> {
+    fn heading(&mut self, held: &[u8], color: Color) -> ArrayVec<u8, MOST_PAINTED>
+        ensures { self.new.style ≡ self.old.style }
+    {
         let mut text = ArrayVec::new();
-        self.place = LinePlace::Colored;
+        let mut place = LinePlace::Colored;
         append(&mut text, color.sequence());
         for byte in held {
-            let step = self.place.step(*byte);
-            self.place = step.place;
+            let step = place.step(*byte);
+            place = step.place;
             append(&mut text, step.before.sequence());
             append(&mut text, &[*byte]);
         }
+        self.place = place;
         text
     }
 
     /// Returns the bytes with their colors.
-    fn as_they_are(&mut self, held: &[u8]) -> ArrayVec<u8, MOST_PAINTED> {
+    fn as_they_are(&mut self, held: &[u8]) -> ArrayVec<u8, MOST_PAINTED>
+        ensures { self.new.style ≡ self.old.style }
+    {
         let mut text = ArrayVec::new();
+        let mut place = self.place;
         for byte in held {
-            let step = self.place.step(*byte);
-            self.place = step.place;
+            let step = place.step(*byte);
+            place = step.place;
             if self.style.colors {
                 append(&mut text, step.before.sequence());
             }
@@ -102,6 +115,7 @@ impl Painter {
                 append(&mut text, step.after.sequence());
             }
         }
+        self.place = place;
         text
     }
 }
@@ -115,8 +129,11 @@ fn append<const N: usize>(text: &mut ArrayVec<u8, N>, bytes: &[u8]) {
 
 /// Returns whether the bytes are escapes of bytes that are not ASCII, of which the last may be
 /// incomplete, and may begin or be a character.
-fn may_be_character(held: &[u8]) -> bool {
+fn may_be_character(held: &[u8]) -> bool
+    ensures { result ≡ true → (rest : List ℕ) × (held.now ≡ codes "\\" ++ rest) }
+{
     held.len() <= MOST_HELD
+        && held.starts_with(b"\\")
         && held
             .chunks(ESCAPE)
             .enumerate()

@@ -1,5 +1,7 @@
 //! The place of a byte in a line of printed text, from which its color follows.
 
+ghost use Rattle.std.specs.Prelude.{◌≡◌, ◌<◌, length, true};
+
 use crate::color::Color;
 
 /// The word `int`, as the number that its bytes are.
@@ -26,6 +28,9 @@ const HEADINGS: [(&[u8], Color); 6] = [
     (b"true\n", Color::Magenta),
     (b"false\n", Color::Magenta),
 ];
+
+/// The number of bytes of the longest heading.
+const LONGEST: usize = 8;
 
 /// The place after the bytes of a line so far.
 #[derive(Clone, Copy, Debug, PartialEq, Eq)]
@@ -70,8 +75,12 @@ fn colored(before: Color, place: LinePlace) -> ByteEffect {
 }
 
 /// Returns whether these bytes of a line, after its indentation, begin a heading and do not end it.
-pub(crate) fn may_be_heading(bytes: &[u8]) -> bool {
-    HEADINGS.iter().any(|(heading, _)| heading.len() > bytes.len() && heading.starts_with(bytes))
+pub(crate) fn may_be_heading(bytes: &[u8]) -> bool
+    ensures { result ≡ true → length bytes.now < 8 }
+{
+    bytes.len() < LONGEST
+        && HEADINGS.iter().any(|(heading, _)| heading.len() > bytes.len()
+            && heading.starts_with(bytes))
 }
 
 /// Returns the color of a line that begins with these bytes after its indentation, if they are a

@@ -11,9 +11,11 @@ use Rattle.resp_frames.specs.Texts.{text_of, used_of}
 use Rattle.resp_frames.specs.declared.words.CommandFrame.{CommandFrame}
 use Rattle.resp_line.proofs.InlineLines.{named_words}
 use Rattle.resp_line.specs.Inline.{IsArrayOf, IsLineWith}
-use Rattle.resp_mux.specs.declared.client_id.ClientId.{ClientId}
-use Rattle.resp_mux.specs.Multiplexing.{HasPassed, Multiplexed, WherePassed}
-use Rattle.resp_mux.specs.Passing.{with_command, with_own}
+use Rattle.resp_board.specs.Boards.{Ask, Own}
+use Rattle.resp_board.specs.Histories.{with_event}
+use Rattle.resp_board.specs.Runs.{HasRun, WhereRun}
+use Rattle.resp_board.specs.declared.board.Board.{Board}
+use Rattle.resp_proxy.specs.declared.route.Route.{Route}
 use Rattle.resp_proxy.specs.declared.error.ClientError.{ClientError}
 use Rattle.resp_proxy.specs.Taking.{AdmitsText, Answers, Carries, Deed, Does, Fits, Passes, Queues, TakesPart}
 use Rattle.resp_proxy.specs.Terms.{IsAdmitted, IsRequestOf, MayBeSent, Terms}
@@ -26,16 +28,16 @@ use Rattle.resp_value.specs.Words.{command_of}
 use Rattle.resp_value.specs.declared.version.Version.TheVariants.{Two}
 
 -- a command that was queued
-carried-with : (terms : Terms) (who : ClientId) (front piece : List ℕ) (found : CommandFrame) (old new : Multiplexed) →
+carried-with : (terms : Terms) (route : Route) (front piece : List ℕ) (found : CommandFrame) (old new : Board) →
     (f : IsFrameOfWords terms.rules.limits front piece found) → MayBeSent terms f.words.name f.words.arguments →
-    WherePassed old (λ p. HasPassed new (with_command who (text_of found.frame) p)) → Carries terms who (text_of found.frame) old new
-carried-with terms who front piece found old new f allowed passed = record {
+    WhereRun old (λ p. HasRun new (with_event (Ask route.client route.line.place (text_of found.frame)) p)) → Carries terms route (text_of found.frame) old new
+carried-with terms route front piece found old new f allowed passed = record {
   name = f.words.name;
   arguments = f.words.arguments;
   spelled = f.words.spelled;
   deed = Queues (text_of found.frame);
   does = (refl, allowed);
-  passed = passed;
+  run = passed;
 }
 
 class-of : (found : Option Class) (name : List ℕ) (arguments : List (List ℕ)) →
@@ -43,41 +45,41 @@ class-of : (found : Option Class) (name : List ℕ) (arguments : List (List ℕ)
 class-of found name arguments has is = subst (λ o. MatchOption o (HasNoClass name arguments) (λ class. HasClass name arguments class)) is has
 
 -- a command of a class that clients may share a connection for was queued
-pub carried-shared : (result : Result (Unit {0}) ClientError) (terms : Terms) (who : ClientId) (front piece : List ℕ) (found : CommandFrame)
-    (old new : Multiplexed) → IsFrameOfWords terms.rules.limits front piece found → found.words.class ≡ Some class.Shared →
-    OnOk result (WherePassed old (λ p. HasPassed new (with_command who (text_of found.frame) p))) →
-    OnOk result (Carries terms who (text_of found.frame) old new)
-carried-shared (Ok x) terms who front piece found old new f is passed =
-    carried-with terms who front piece found old new f
+pub carried-shared : (result : Result (Unit {0}) ClientError) (terms : Terms) (route : Route) (front piece : List ℕ) (found : CommandFrame)
+    (old new : Board) → IsFrameOfWords terms.rules.limits front piece found → found.words.class ≡ Some class.Shared →
+    OnOk result (WhereRun old (λ p. HasRun new (with_event (Ask route.client route.line.place (text_of found.frame)) p))) →
+    OnOk result (Carries terms route (text_of found.frame) old new)
+carried-shared (Ok x) terms route front piece found old new f is passed =
+    carried-with terms route front piece found old new f
     (inl (class-of found.words.class f.words.name f.words.arguments f.words.has.class is)) passed
-carried-shared (Err e) terms who front piece found old new f is passed = tt
+carried-shared (Err e) terms route front piece found old new f is passed = tt
 
 -- a command that is admitted was queued
-pub carried-admitted : NoSpellingBeginsAnother → (result : Result (Unit {0}) ClientError) (terms : Terms) (who : ClientId) (front piece : List ℕ)
-    (found : CommandFrame) (old new : Multiplexed) → IsFrameOfWords terms.rules.limits front piece found → AdmitsText terms (text_of found.frame) →
-    OnOk result (WherePassed old (λ p. HasPassed new (with_command who (text_of found.frame) p))) →
-    OnOk result (Carries terms who (text_of found.frame) old new)
-carried-admitted law (Ok x) terms who front piece found old new f a passed =
+pub carried-admitted : NoSpellingBeginsAnother → (result : Result (Unit {0}) ClientError) (terms : Terms) (route : Route) (front piece : List ℕ)
+    (found : CommandFrame) (old new : Board) → IsFrameOfWords terms.rules.limits front piece found → AdmitsText terms (text_of found.frame) →
+    OnOk result (WhereRun old (λ p. HasRun new (with_event (Ask route.client route.line.place (text_of found.frame)) p))) →
+    OnOk result (Carries terms route (text_of found.frame) old new)
+carried-admitted law (Ok x) terms route front piece found old new f a passed =
     let same : a.name ∷ a.arguments ≡ f.words.name ∷ f.words.arguments =
     same_words law terms.rules.limits (text_of found.frame) (a.name ∷ a.arguments) (f.words.name ∷ f.words.arguments) a.rest a.begins
     (whole_text terms.rules.limits (text_of found.frame) f.words.name f.words.arguments f.words.spelled) in
-    carried-with terms who front piece found old new f
+    carried-with terms route front piece found old new f
     (inr (subst (IsAdmitted terms) (name_same a.name f.words.name a.arguments f.words.arguments same) a.admitted)) passed
-carried-admitted law (Err e) terms who front piece found old new f a passed = tt
+carried-admitted law (Err e) terms route front piece found old new f a passed = tt
 
 -- a command was answered
-pub carried-own : (result : Result (Unit {0}) ClientError) (terms : Terms) (who : ClientId) (answer front piece : List ℕ) (found : CommandFrame)
-    (old new : Multiplexed) → IsFrameOfWords terms.rules.limits front piece found →
-    OnOk result (WherePassed old (λ p. HasPassed new (with_own who answer p))) → OnOk result (Carries terms who (text_of found.frame) old new)
-carried-own (Ok x) terms who answer front piece found old new f passed = record {
+pub carried-own : (result : Result (Unit {0}) ClientError) (terms : Terms) (route : Route) (answer front piece : List ℕ) (found : CommandFrame)
+    (old new : Board) → IsFrameOfWords terms.rules.limits front piece found →
+    OnOk result (WhereRun old (λ p. HasRun new (with_event (Own route.client answer) p))) → OnOk result (Carries terms route (text_of found.frame) old new)
+carried-own (Ok x) terms route answer front piece found old new f passed = record {
   name = f.words.name;
   arguments = f.words.arguments;
   spelled = f.words.spelled;
   deed = Answers answer;
   does = tt;
-  passed = passed;
+  run = passed;
 }
-carried-own (Err e) terms who answer front piece found old new f passed = tt
+carried-own (Err e) terms route answer front piece found old new f passed = tt
 
 request-fits : (terms : Terms) (text sent name : List ℕ) (arguments : List (List ℕ)) (deed : Deed) → IsRequestOf terms text sent (name ∷ arguments) →
     Does terms name arguments sent deed → Fits terms text deed
@@ -91,14 +93,14 @@ request-fits terms text sent name arguments (Queues queued) r (is, allowed) = re
 request-fits terms text sent name arguments (Answers answer) r does = record { sent = sent; name = name; arguments = arguments; request = r }
 
 -- a part that is an array was taken
-pub array-part : (terms : Terms) (who : ClientId) (front piece : List ℕ) (found : CommandFrame) (old new : Multiplexed) →
-    IsFrameOfWords terms.rules.limits front piece found → Carries terms who (text_of found.frame) old new →
-    TakesPart terms who (front ++ take (used_of found.frame) piece) old new
-array-part terms who front piece found old new f c =
-    subst (λ text. TakesPart terms who text old new) f.frame.text (record {
+pub array-part : (terms : Terms) (route : Route) (front piece : List ℕ) (found : CommandFrame) (old new : Board) →
+    IsFrameOfWords terms.rules.limits front piece found → Carries terms route (text_of found.frame) old new →
+    TakesPart terms route (front ++ take (used_of found.frame) piece) old new
+array-part terms route front piece found old new f c =
+    subst (λ text. TakesPart terms route text old new) f.frame.text (record {
       deed = c.deed;
       fits = request-fits terms (text_of found.frame) (text_of found.frame) c.name c.arguments c.deed (record { spelled = c.spelled; form = inl refl }) c.does;
-      passed = c.passed;
+      run = c.run;
     })
 
 -- the words with which the array of a line begins are those of the line
@@ -112,14 +114,14 @@ line-request law terms content text array name arguments rest lines line a begin
     (record { spelled = a.spelled; form = inr (lines, record { content = content; line = line; are = a.are }, a.canonical) })
 
 -- a part that is a line was taken
-pub line-part : NoSpellingBeginsAnother → (terms : Terms) (who : ClientId) (content text array : List ℕ) (old new : Multiplexed) → terms.lines ≡ true →
-    IsLineWith content text → IsArrayOf terms.rules.limits content array → Carries terms who array old new → TakesPart terms who text old new
-line-part law terms who content text array old new lines line a c = record {
+pub line-part : NoSpellingBeginsAnother → (terms : Terms) (route : Route) (content text array : List ℕ) (old new : Board) → terms.lines ≡ true →
+    IsLineWith content text → IsArrayOf terms.rules.limits content array → Carries terms route array old new → TakesPart terms route text old new
+line-part law terms route content text array old new lines line a c = record {
   deed = c.deed;
   fits = request-fits terms text array c.name c.arguments c.deed
       (line-request law terms content text array c.name c.arguments [] lines line a
       (whole_text terms.rules.limits array c.name c.arguments c.spelled)) c.does;
-  passed = c.passed;
+  run = c.run;
 }
 
 -- an array of the words of a line is a command

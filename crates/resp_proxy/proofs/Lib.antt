@@ -4,8 +4,8 @@ pub mod Takings
 pub mod Tellings
 pub mod Holdings
 pub mod Replyings
+pub mod Rejectings
 pub mod Probings
-pub mod Failings
 pub mod Gives
 pub mod Readings
 pub mod Others

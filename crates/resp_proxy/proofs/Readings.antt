@@ -4,12 +4,13 @@ use Rattle.std.specs.Prelude.{IfErr, OnOk}
 use Rattle.std.proofs.lemmas.List.{append-nil, take-append-drop}
 use Rattle.resp_frames.specs.declared.begun.Begun.{Begun}
 use Rattle.resp_frames.specs.Framing.{HasBegun}
-use Rattle.resp_mux.specs.declared.client_id.ClientId.{ClientId}
-use Rattle.resp_mux.proofs.Begun.{begins_sent}
-use Rattle.resp_mux.specs.Multiplexing.{BeginsMore, HasPassed, Multiplexed}
-use Rattle.resp_mux.specs.Passing.{Passed, with_sent}
+use Rattle.resp_board.specs.Histories.{History}
+use Rattle.resp_board.specs.Runs.{unsent_on}
+use Rattle.resp_board.specs.declared.board.Board.{Board}
+use Rattle.resp_board.proofs.Standing.{sent-nothing}
 use Rattle.resp_proxy.specs.Clients.{Holds, is_closing}
 use Rattle.resp_proxy.specs.declared.client.Client.{Client}
+use Rattle.resp_proxy.specs.declared.route.Route.{Route}
 use Rattle.resp_proxy.specs.declared.error.ClientError.{ClientError}
 use Rattle.resp_proxy.specs.declared.error.ClientError.TheVariants as error
 use Rattle.resp_proxy.specs.declared.error.ServerError.{ServerError}
@@ -40,9 +41,9 @@ not-read None = tt
 not-read (Some left) = (left, refl, refl)
 
 -- no byte came from the client
-pub nothing-came : (terms : Terms) (who : ClientId) (left left' : Option (List ℕ)) (held : List ℕ) (c : Client) (m : Multiplexed) → HaveCome left left' [] →
-    Holds terms c held → (read : Read) → TellsRead read (Ok tt) [] → ReadsClient terms who left left' held c read m m
-nothing-came terms who left left' held c m come h read told = record {
+pub nothing-came : (terms : Terms) (route : Route) (left left' : Option (List ℕ)) (held : List ℕ) (c : Client) (m : Board) → HaveCome left left' [] →
+    Holds terms c held → (read : Read) → TellsRead read (Ok tt) [] → ReadsClient terms route left left' held c read m m
+nothing-came terms route left left' held c m come h read told = record {
   came = [];
   come = come;
   end = Ok tt;
@@ -53,7 +54,7 @@ nothing-came terms who left left' held c m come h read told = record {
     last = None;
     whole = append-nil held;
     commands = tt;
-    passed = λ p passed. passed;
+    run = λ p passed. passed;
     holds = (refl, h);
     refused = tt;
     shut = tt;
@@ -61,9 +62,9 @@ nothing-came terms who left left' held c m come h read told = record {
 }
 
 -- the input ended, the client is closing, and what it holds is lost
-pub ended : (terms : Terms) (who : ClientId) (left left' : Option (List ℕ)) (held : List ℕ) (c : Client) (m : Multiplexed) → HaveCome left left' [] →
-    Holds terms c [] → is_closing c ≡ true → ReadsClient terms who left left' held c read.Ended m m
-ended terms who left left' held c m come h closing = record {
+pub ended : (terms : Terms) (route : Route) (left left' : Option (List ℕ)) (held : List ℕ) (c : Client) (m : Board) → HaveCome left left' [] →
+    Holds terms c [] → is_closing c ≡ true → ReadsClient terms route left left' held c read.Ended m m
+ended terms route left left' held c m come h closing = record {
   came = [];
   come = come;
   end = Err error.Closing;
@@ -74,7 +75,7 @@ ended terms who left left' held c m come h closing = record {
     last = None;
     whole = refl;
     commands = tt;
-    passed = λ p passed. passed;
+    run = λ p passed. passed;
     holds = tt;
     refused = tt;
     shut = (h, closing);
@@ -82,13 +83,13 @@ ended terms who left left' held c m come h closing = record {
 }
 
 -- no byte came from the server
-pub no-reply-came : (rules : Rules) (left left' : Option (List ℕ)) (front : List ℕ) (b : Begun) (m : Multiplexed) → HaveCome left left' [] →
-    HasBegun rules b front → ReadsServer rules left left' front b None (Ok tt) m m
-no-reply-came rules left left' front b m come h = record {
+pub no-reply-came : (rules : Rules) (line : ℕ) (left left' : Option (List ℕ)) (front : List ℕ) (b : Begun) (m : Board) → HaveCome left left' [] →
+    HasBegun rules b front → ReadsServer rules line left left' front b None (Ok tt) m m
+no-reply-came rules line left left' front b m come h = record {
   came = [];
   come = come;
   counted = refl;
-  takes = λ p passed. record { replies = []; after = front; whole = append-nil front; spelled = tt; passed = passed; begun = h; refused = tt };
+  takes = λ p passed. record { replies = []; after = front; whole = append-nil front; spelled = tt; run = passed; begun = h; refused = tt };
 }
 
 -- the result of a read tells what was taken
@@ -97,34 +98,12 @@ pub told-taken : (taken : Result (Unit {0}) ClientError) (result : Read) (came :
 told-taken (Ok x) result came some closing = subst (λ r. TellsRead r (Ok tt) came) (sym some) refl
 told-taken (Err e) result came some closing = subst (λ r. TellsRead r (Err e) came) (sym closing) (inl refl)
 
-begun-none : (unbegun : List ℕ) (left : ℕ) → BeginsMore 0 unbegun left unbegun left
-begun-none unbegun left =
-    record { more = 0; within = omega arith; others = refl; bytes = omega arith; fewest = λ fewer few. absurd (omega (arith, few)) }
-
-sent-nothing : (m : Multiplexed) (p : Passed) → HasPassed m p → HasPassed m (with_sent [] p)
-sent-nothing m p h =
-    let s = h.stands in
-    record {
-      stands = record {
-        open_commands = s.open_commands;
-        answered = s.answered;
-        whole = s.whole;
-        each_one = s.each_one;
-        in_order = ap (λ text. text ++ m.unsent) (append-nil p.sent) ∙ s.in_order;
-        served = s.served;
-        numbered = s.numbered;
-        seated = s.seated;
-        ungiven = s.ungiven;
-      };
-      begins = begins_sent (length m.waiting) m.unbegun m.unbegun m.left m.left 0 p [] (omega arith) (begun-none m.unbegun m.left) h.begins;
-    }
-
 -- nothing was written to the server
-pub none-sent : (out : Option (List ℕ)) (m : Multiplexed) → SendsSome out out m m
-none-sent out m = record { gone = []; written = appends-none out; front = (m.unsent, refl); passed = λ p h. sent-nothing m p h }
+pub none-sent : (line : ℕ) (out : Option (List ℕ)) (m : Board) → SendsSome line out out m m
+none-sent line out m = record { gone = []; written = appends-none out; front = (unsent_on m line, refl); run = λ p h. sent-nothing m line p h }
 
 -- the bytes after an error are lost, whatever is begun
-pub replies-lost : (rules : Rules) (bytes : List ℕ) (b b' : Begun) (e : ServerError) (p : Passed) (m : Multiplexed) → TakesReplies rules bytes b (Err e) p m →
-    TakesReplies rules bytes b' (Err e) p m
-replies-lost rules bytes b b' e p m t =
-    record { replies = t.replies; after = t.after; whole = t.whole; spelled = t.spelled; passed = t.passed; begun = tt; refused = t.refused }
+pub replies-lost : (rules : Rules) (line : ℕ) (bytes : List ℕ) (b b' : Begun) (e : ServerError) (p : History) (m : Board) → TakesReplies rules line bytes b (Err e) p m →
+    TakesReplies rules line bytes b' (Err e) p m
+replies-lost rules line bytes b b' e p m t =
+    record { replies = t.replies; after = t.after; whole = t.whole; spelled = t.spelled; run = t.run; begun = tt; refused = t.refused }

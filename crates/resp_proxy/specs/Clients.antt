@@ -1,12 +1,17 @@
 -- The bytes that came from a client and are not yet a command.
 use Rattle.std.specs.Prelude.{◌≡◌, Bool, List, ℕ, ◌++◌}
-use Rattle.resp_mux.specs.declared.client_id.ClientId.{ClientId}
+use Rattle.resp_board.specs.declared.ticket.ClientId.{ClientId}
 use Rattle.resp_proxy.specs.declared.client.Client.{Client}
+use Rattle.resp_proxy.specs.declared.route.Route.{Route}
 use Rattle.resp_proxy.specs.Terms.{Terms}
 use Rattle.resp_proxy.specs.Unfinished.{HasUnfinished}
 
 abbrev pub client_id : Client → ClientId
-client_id c = c.id
+client_id c = c.route.client
+
+-- the client, and the line to which its commands go
+abbrev pub route_of : Client → Route
+route_of c = c.route
 
 -- nothing more is taken from the client
 abbrev pub is_closing : Client → Bool

@@ -1,15 +1,13 @@
--- What becomes of the commands that wait if no connection to the server can be opened.
-use Rattle.std.specs.Prelude.{ℕ, List}
-use Rattle.resp_mux.specs.Multiplexing.{HasPassed, Multiplexed, unsent}
-use Rattle.resp_mux.specs.Passing.{IsBegun, Passed, with_loss, with_replies, with_sent}
+-- What becomes of the commands that wait when a connection is lost or cannot be opened.
+use Rattle.std.specs.Prelude.{◌⊎◌, ℕ, List}
+use Rattle.resp_board.specs.declared.board.Board.{Board}
+use Rattle.resp_board.specs.Boards.{Lose}
+use Rattle.resp_board.specs.Runs.{HasAnsweredSome, HasLostSome, Runs, begun_on}
 
--- Each command of which a byte would be sent if all bytes that wait were sent has this text as its reply.
-pub record Fails (text : List ℕ) (old new : Multiplexed) (p : Passed) : Type 0 where
-  pub count : ℕ
-  pub begun : IsBegun (with_sent (unsent old) p) count
-  pub passed : HasPassed new (with_loss count text p)
+-- each command that waits on a line, and of which a byte was sent, has this text as its reply
+abbrev pub Loses : ℕ → List ℕ → Board → Board → Type 0
+Loses line text old new = Runs (Lose line (begun_on old line) text) old new
 
--- The first of these commands have this text as their reply, and the others wait as if they were begun.
-pub record FailsSome (text : List ℕ) (old new : Multiplexed) (p : Passed) : Type 0 where
-  pub count : ℕ
-  pub passed : HasPassed new (with_replies count text (with_sent (unsent old) p))
+-- the first of the commands that wait on a line have this text as their reply, and the others still wait
+abbrev pub FailsSome : ℕ → List ℕ → Board → Board → Type 0
+FailsSome line text old new = HasAnsweredSome line text old new ⊎ HasLostSome line text old new

@@ -4,6 +4,7 @@ pub mod Failing
 pub mod Proxies
 pub mod Probing
 pub mod Replying
+pub mod Rejecting
 pub mod Room
 pub mod Refusing
 pub mod Taking

@@ -1,9 +1,11 @@
 -- Probes of the connection to the server: commands of the proxy's own, whose replies are known.
-use Rattle.std.specs.Prelude.{◌≡◌, ◌⊎◌, ℕ, ◌==◌, true, false, List, ◌++◌, Option, IfSome, Result, Ok, Err, codes}
+use Rattle.std.specs.Prelude.{◌≡◌, ◌⊎◌, ℕ, ◌==◌, true, false, List, ◌++◌, Option, IfSome, Result, Err, codes}
 use Rattle.std.specs.List.{starts_with}
-use Rattle.resp_mux.specs.declared.client_id.ClientId.{ClientId}
-use Rattle.resp_mux.specs.Multiplexing.{HasPassed, Multiplexed, waiting_for}
-use Rattle.resp_mux.specs.Passing.{Passed, is_same, with_reply}
+use Rattle.resp_board.specs.Boards.{Reply, is_same}
+use Rattle.resp_board.specs.Histories.{History, with_event}
+use Rattle.resp_board.specs.Runs.{HasRun, waiting_for}
+use Rattle.resp_board.specs.declared.board.Board.{Board}
+use Rattle.resp_board.specs.declared.ticket.ClientId.{ClientId}
 use Rattle.resp_proxy.specs.declared.error.ServerError.{ServerError}
 use Rattle.resp_proxy.specs.declared.error.ServerError.TheVariants as error
 use Rattle.resp_proxy.specs.Replying.{with_each_reply}
@@ -17,7 +19,7 @@ abbrev pub echoed_text : List ℕ → List ℕ
 echoed_text word = codes "$32\r\n" ++ word ++ codes "\r\n"
 
 -- the replies to probes that have come and were not removed are the first of the expected ones
-abbrev pub AreInStep : Option ClientId → List ℕ → Multiplexed → Type 0
+abbrev pub AreInStep : Option ClientId → List ℕ → Board → Type 0
 AreInStep prober expected m = IfSome prober (λ who. IfSome (waiting_for m who) (λ text. starts_with (λ a b. a == b) expected text ≡ true))
 
 -- the client sends no probes
@@ -26,19 +28,18 @@ IsAnother prober client = IfSome prober (λ who. is_same who client ≡ false)
 
 -- Replies came, and then one more, and no reply behind it was given to anybody. Before this last reply the replies to probes
 -- were the expected ones, and with it they are not.
-pub record FallsOutOfStep (prober : Option ClientId) (expected : List ℕ) (p : Passed) (new : Multiplexed) : Type 0 where
+pub record FallsOutOfStep (line : ℕ) (prober : Option ClientId) (expected : List ℕ) (p : History) (new : Board) : Type 0 where
   pub before : List (List ℕ)
   pub last : List ℕ
-  pub between : Multiplexed
-  pub passed_before : HasPassed between (with_each_reply before p)
+  pub between : Board
+  pub run_before : HasRun between (with_each_reply line before p)
   pub in_step : AreInStep prober expected between
-  pub passed : HasPassed new (with_reply last (with_each_reply before p))
+  pub run : HasRun new (with_event (Reply line last) (with_each_reply line before p))
   pub wrong : AreInStep prober expected new → ⊥
 
 -- The replies to probes are the expected ones, unless this is the error. Then they were not so before, or the last reply that was
 -- given to anybody is that of a probe and is wrong.
-abbrev pub KeepsStep : Option ClientId → List ℕ → Result (Unit {0}) ServerError → Multiplexed → Passed → Multiplexed → Type 0
-KeepsStep prober expected (Ok done) old p new = AreInStep prober expected new
-KeepsStep prober expected (Err (error.Reply e)) old p new = AreInStep prober expected new
-KeepsStep prober expected (Err error.OutOfStep) old p new =
-    (AreInStep prober expected old → ⊥) ⊎ FallsOutOfStep prober expected p new
+abbrev pub KeepsStep : ℕ → Option ClientId → List ℕ → Result (Unit {0}) ServerError → Board → History → Board → Type 0
+KeepsStep line prober expected (Err error.OutOfStep) old p new =
+    (AreInStep prober expected old → ⊥) ⊎ FallsOutOfStep line prober expected p new
+KeepsStep line prober expected _ old p new = AreInStep prober expected new

@@ -3,17 +3,20 @@ use Rattle.std.specs.Prelude.{◌≡◌, ℕ, Bool, List, Option, None, codes}
 use Rattle.resp_frames.specs.declared.begun.Begun.{Begun}
 use Rattle.resp_frames.specs.declared.frames.Frames.{Frames}
 use Rattle.resp_frames.specs.Framing.{HasBegun, IsReady}
-use Rattle.resp_mux.specs.declared.client_id.ClientId.{ClientId}
-use Rattle.resp_mux.specs.Multiplexing.{Multiplexed, waiting_for}
+use Rattle.resp_board.specs.Runs.{waiting_for}
+use Rattle.resp_board.specs.declared.board.Board.{Board}
+use Rattle.resp_board.specs.declared.ticket.ClientId.{ClientId}
 use Rattle.resp_proxy.specs.declared.client.Client.{Client}
 use Rattle.resp_proxy.specs.declared.settings.Settings.{Settings}
-use Rattle.resp_proxy.specs.Clients.{Holds, client_id}
+use Rattle.resp_proxy.specs.Clients.{Holds, route_of}
 use Rattle.resp_proxy.specs.Room.{HasRoom}
 use Rattle.resp_proxy.specs.Terms.{Terms}
 use Rattle.resp_value.specs.Rules.{Rules}
 
 pub record Proxied : Type 0 where
-  pub mux : Multiplexed
+  pub board : Board
+  -- the line to which the commands of all clients go
+  pub line : ℕ
   pub settings : Settings
   -- which bytes of a client are commands, and which commands are sent
   pub terms : Terms
@@ -30,8 +33,12 @@ pub record Proxied : Type 0 where
   -- the replies to its commands, without those that were removed
   pub expected : List ℕ
 
-abbrev pub mux_of : Proxied → Multiplexed
-mux_of p = p.mux
+abbrev pub board_in : Proxied → Board
+board_in p = p.board
+
+-- the line to which the commands of all clients go
+abbrev pub line_of : Proxied → ℕ
+line_of p = p.line
 
 abbrev pub terms_of : Proxied → Terms
 terms_of p = p.terms
@@ -75,12 +82,12 @@ abbrev pub settings_of : Proxied → Settings
 settings_of p = p.settings
 
 -- no client is open
-abbrev pub HasNoClient : Multiplexed → Type 0
+abbrev pub HasNoClient : Board → Type 0
 HasNoClient m = (who : ClientId) → waiting_for m who ≡ None
 
 -- a command of this client may be taken now
 abbrev pub HasRoomFor : Proxied → Client → Type 0
-HasRoomFor p c = HasRoom p.settings p.mux (client_id c)
+HasRoomFor p c = HasRoom p.settings p.board (route_of c)
 
 -- the server has begun a reply with these bytes
 abbrev pub HasBegunBy : Proxied → List ℕ → Type 0

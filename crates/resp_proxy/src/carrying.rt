@@ -3,8 +3,8 @@
 ghost use Rattle.std.specs.Prelude.{◌≡◌, ℕ, List, None, Some, IfErr, IsTrue, OnErr, OnOk};
 ghost use Rattle.resp_frames.specs.Commands.{IsFrameOfWords};
 ghost use Rattle.resp_frames.specs.Texts.{text_of};
-ghost use Rattle.resp_mux.specs.Multiplexing.{HasPassed, KeepsClients, KeepsPassed, WherePassed, waiting_for};
-ghost use Rattle.resp_mux.specs.Passing.{with_command, with_own};
+ghost use Rattle.resp_board.specs.Boards.{Ask, Own};
+ghost use Rattle.resp_board.specs.Runs.{KeepsOpen, KeepsRun, Runs, waiting_for};
 ghost use Rattle.resp_proxy.specs.Unfinished.{terms_of};
 ghost use Rattle.resp_value.specs.Bounds.{Bounds};
 ghost use Rattle.resp_proxy.specs.Reasons.{RefusesArray};
@@ -17,10 +17,11 @@ use crate::error::ClientError;
 use crate::identity::Identity;
 use crate::intake::Intake;
 use crate::local::{local_answer, may_be_answered};
+use crate::route::Route;
 use crate::settings::Settings;
+use resp_board::{AskError, Board, ClientId, OwnError};
 use resp_commands::Class;
 use resp_frames::CommandFrame;
-use resp_mux::{ClientId, ForwardError, Mux, OwnError};
 use resp_value::laws::no_spelling_begins_another;
 use std::alloc::{AllocError, Global};
 
@@ -33,25 +34,27 @@ pub(crate) fn carry_out(
     intake: &Intake,
     counts: &mut ProxyCounts,
     identity: &mut Identity,
-    mux: &mut Mux,
-    who: ClientId,
+    board: &mut Board,
+    route: Route,
     command: &CommandFrame,
 ) -> Result<(), ClientError>
     // A command that may not be sent is answered.
     ensures carried { (front piece : List ℕ) →
         IsFrameOfWords (terms_of intake.now).rules.limits front piece command.now →
-        OnOk result (Carries (terms_of intake.now) who (text_of command.now.frame) mux.old mux.new) }
+        OnOk result (Carries (terms_of intake.now) route (text_of command.now.frame) board.old board.new) }
     ensures refused { IfErr result
         (RefusesArray (terms_of intake.now).rules.limits (text_of command.now.frame)) }
-    ensures open { (waiting_for mux.old who ≡ None → ⊥) → IfErr result IsOfBytes }
-    ensures unchanged { OnErr result (KeepsPassed mux.old mux.new) }
-    ensures same_clients { KeepsClients mux.old mux.new }
+    ensures open { (waiting_for board.old route.client ≡ None → ⊥) → IfErr result IsOfBytes }
+    ensures unchanged { OnErr result (KeepsRun board.old board.new) }
+    ensures same_clients { KeepsOpen board.old board.new }
 {
     counts.commands_by_name.add(command.words.place);
     if is_sent(command) {
-        return forward(mux, who, command.frame.text());
+        return forward(board, route, command.frame.text());
     }
-    answer_or_send(alloc, settings, intake, counts, identity, mux, who, command)
+    answer_or_send(
+        alloc, settings, intake, counts, identity, board, route, command,
+    )
 }
 
 /// Like `carry_out`, after the command was counted.
@@ -62,32 +65,32 @@ fn answer_or_send(
     intake: &Intake,
     counts: &ProxyCounts,
     identity: &mut Identity,
-    mux: &mut Mux,
-    who: ClientId,
+    board: &mut Board,
+    route: Route,
     command: &CommandFrame,
 ) -> Result<(), ClientError>
     ensures carried { (front piece : List ℕ) →
         IsFrameOfWords (terms_of intake.now).rules.limits front piece command.now →
-        OnOk result (Carries (terms_of intake.now) who (text_of command.now.frame) mux.old mux.new) }
+        OnOk result (Carries (terms_of intake.now) route (text_of command.now.frame) board.old board.new) }
     ensures refused { IfErr result
         (RefusesArray (terms_of intake.now).rules.limits (text_of command.now.frame)) }
-    ensures open { (waiting_for mux.old who ≡ None → ⊥) → IfErr result IsOfBytes }
-    ensures unchanged { OnErr result (KeepsPassed mux.old mux.new) }
-    ensures same_clients { KeepsClients mux.old mux.new }
+    ensures open { (waiting_for board.old route.client ≡ None → ⊥) → IfErr result IsOfBytes }
+    ensures unchanged { OnErr result (KeepsRun board.old board.new) }
+    ensures same_clients { KeepsOpen board.old board.new }
 {
     no_spelling_begins_another();
     if is_shared(command) {
-        return match local_answer(alloc, settings, counts, mux, command) {
-            Ok(Some(answer)) => own(mux, who, &answer),
-            Ok(None) => forward(mux, who, command.frame.text()),
+        return match local_answer(alloc, settings, counts, board, route.line, command) {
+            Ok(Some(answer)) => own(board, route.client, &answer),
+            Ok(None) => forward(board, route, command.frame.text()),
             Err(AllocError) => Err(ClientError::OutOfMemory),
         };
     }
     if command.words.class.is_none() && intake.admits(command) {
-        return forward(mux, who, command.frame.text());
+        return forward(board, route, command.frame.text());
     }
     match own_answer(alloc, &intake.frames.limits(), settings, identity, command) {
-        Ok(Answer::Reply(answer)) => own(mux, who, &answer),
+        Ok(Answer::Reply(answer)) => own(board, route.client, &answer),
         Ok(Answer::Quit) => Err(ClientError::Quit),
         Ok(Answer::Http) => Err(ClientError::Http),
         Ok(Answer::NoneLeft(name)) => Err(ClientError::NoneLeft(name)),
@@ -113,35 +116,34 @@ fn is_shared(command: &CommandFrame) -> bool
 }
 
 /// Queues a command for the server.
-fn forward(mux: &mut Mux, who: ClientId, text: &[u8]) -> Result<(), ClientError>
-    ensures passed { OnOk result (WherePassed mux.old (λ p.
-        HasPassed mux.new (with_command who text.now p))) }
+fn forward(board: &mut Board, route: Route, text: &[u8]) -> Result<(), ClientError>
+    ensures run { OnOk result
+        (Runs (Ask route.client route.line.place text.now) board.old board.new) }
     ensures refused { (limits : Bounds) (command : List ℕ) →
         IfErr result (RefusesArray limits command) }
-    ensures open { (waiting_for mux.old who ≡ None → ⊥) → IfErr result IsOfBytes }
-    ensures unchanged { OnErr result (KeepsPassed mux.old mux.new) }
-    ensures same_clients { KeepsClients mux.old mux.new }
+    ensures open { (waiting_for board.old route.client ≡ None → ⊥) → IfErr result IsOfBytes }
+    ensures unchanged { OnErr result (KeepsRun board.old board.new) }
+    ensures same_clients { KeepsOpen board.old board.new }
 {
-    match mux.forward(who, text) {
+    match board.ask(route.client, route.line, text) {
         Ok(()) => Ok(()),
-        Err(ForwardError::NoClient) => Err(ClientError::NoClient),
+        Err(AskError::NoClient) => Err(ClientError::NoClient),
         Err(_) => Err(ClientError::OutOfMemory),
     }
 }
 
 /// Gives a client a reply of the proxy itself.
-pub(crate) fn own(mux: &mut Mux, who: ClientId, text: &[u8]) -> Result<(), ClientError>
-    ensures passed { OnOk result (WherePassed mux.old (λ p.
-        HasPassed mux.new (with_own who text.now p))) }
+pub(crate) fn own(board: &mut Board, who: ClientId, text: &[u8]) -> Result<(), ClientError>
+    ensures run { OnOk result (Runs (Own who text.now) board.old board.new) }
     ensures refused { (limits : Bounds) (command : List ℕ) →
         IfErr result (RefusesArray limits command) }
-    ensures open { (waiting_for mux.old who ≡ None → ⊥) → IfErr result IsOfBytes }
-    ensures unchanged { OnErr result (KeepsPassed mux.old mux.new) }
-    ensures same_clients { KeepsClients mux.old mux.new }
+    ensures open { (waiting_for board.old who ≡ None → ⊥) → IfErr result IsOfBytes }
+    ensures unchanged { OnErr result (KeepsRun board.old board.new) }
+    ensures same_clients { KeepsOpen board.old board.new }
 {
-    match mux.own(who, text) {
+    match board.own(who, text) {
         Ok(()) => Ok(()),
         Err(OwnError::NoClient) => Err(ClientError::NoClient),
-        Err(OwnError::OutOfMemory) => Err(ClientError::OutOfMemory),
+        Err(_) => Err(ClientError::OutOfMemory),
     }
 }

@@ -1,13 +1,14 @@
 //! A client of a proxy.
 
 ghost use Rattle.std.specs.Prelude.{◌≡◌, ◌↔◌, false, []};
-ghost use Rattle.resp_proxy.specs.Clients.{Holds, client_id, is_closing, is_leaving, waits_for_room};
+ghost use Rattle.resp_proxy.specs.Clients.{Holds, client_id, is_closing, is_leaving, route_of, waits_for_room};
 ghost use Rattle.resp_proxy.specs.Terms.{Terms};
 
 use crate::identity::Identity;
+use crate::route::Route;
 use bytes::BytesMut;
+use resp_board::ClientId;
 use resp_frames::Unfinished;
-use resp_mux::ClientId;
 use std::alloc::Global;
 
 /// A client of a proxy: its id, and the bytes received from it that are not yet a command.
@@ -15,7 +16,7 @@ use std::alloc::Global;
 /// It belongs to the proxy that opened it, and to one connection.
 #[derive(Drop)]
 pub struct Client {
-    pub(crate) id: ClientId,
+    pub(crate) route: Route,
     /// The incomplete command of the client.
     pub(crate) unfinished: Unfinished,
     /// The bytes after it. They wait until there is room for more commands.
@@ -28,20 +29,20 @@ pub struct Client {
 
 impl Client {
     /// Returns a client that has sent nothing.
-    pub(crate) fn new(alloc: Global, id: ClientId) -> Client
-        ensures id { client_id result ≡ id }
+    pub(crate) fn new(alloc: Global, route: Route) -> Client
+        ensures route { route_of result ≡ route }
         ensures nothing { (terms : Terms) → Holds terms result [] }
         ensures open { is_closing result ≡ false }
         ensures stays { is_leaving result ≡ false }
     {
         Client {
-            id,
+            route,
             unfinished: Unfinished::new(alloc),
             rest: BytesMut::new(alloc),
             is_closing: false,
             is_leaving: false,
             identity: Identity {
-                number: id.number,
+                number: route.client.number,
                 name: Vec::new(alloc),
             },
         }
@@ -51,7 +52,7 @@ impl Client {
     pub fn id(&self) -> ClientId
         ensures { result ≡ client_id self.now }
     {
-        self.id
+        self.route.client
     }
 
     /// Returns whether nothing more is taken from this client. Close it when all its replies were

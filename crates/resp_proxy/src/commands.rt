@@ -2,7 +2,7 @@
 
 ghost use Rattle.std.specs.Prelude.{◌≡◌, ◌++◌, ◌≤◌, None, [], drop, length, option_map, take, true, IfErr, IfOk, IsSome, OnErr, OnOk};
 ghost use Rattle.resp_frames.specs.Framing.{IsReady, WhereBegun, frame_rules};
-ghost use Rattle.resp_mux.specs.Multiplexing.{KeepsClients, KeepsPassed, waiting_for};
+ghost use Rattle.resp_board.specs.Runs.{KeepsOpen, KeepsRun, waiting_for};
 ghost use Rattle.resp_proxy.specs.Room.{HasRoom};
 ghost use Rattle.resp_proxy.specs.Leaving.{IsAside, part_used};
 ghost use Rattle.resp_proxy.specs.Reasons.{MovesOn};
@@ -17,9 +17,10 @@ use crate::identity::Identity;
 use crate::intake::Intake;
 use crate::lines::take_line;
 use crate::part::Part;
+use crate::route::Route;
 use crate::settings::Settings;
+use resp_board::Board;
 use resp_frames::{Begun, Request, Unfinished};
-use resp_mux::{ClientId, Mux};
 use std::alloc::{AllocError, Global};
 
 /// The result of [`take_commands`].
@@ -46,27 +47,27 @@ pub(crate) fn take_commands(
     counts: &mut ProxyCounts,
     unfinished: &mut Unfinished,
     identity: &mut Identity,
-    mux: &mut Mux,
-    who: ClientId,
+    board: &mut Board,
+    route: Route,
     piece: &[u8],
 ) -> TakenCommands
     ensures taken { WhereUnfinished intake.old unfinished.old (λ front.
-        TakesSome (terms_of intake.old) who (front ++ take result.used piece.now) unfinished.new
-        (option_map (λ text. text.items) result.aside) result.end mux.old mux.new) }
+        TakesSome (terms_of intake.old) route (front ++ take result.used piece.now) unfinished.new
+        (option_map (λ text. text.items) result.aside) result.end board.old board.new) }
     ensures within { result.used ≤ length piece.now }
     ensures open { IfErr result.end IsOfBytes }
     ensures whole { OnErr result.end (drop result.used piece.now ≡ []) }
     // If there is room for more, all bytes were taken.
-    ensures all { OnOk result.end (result.aside ≡ None → HasRoom settings.now mux.new who →
+    ensures all { OnOk result.end (result.aside ≡ None → HasRoom settings.now board.new route →
         result.used ≡ length piece.now) }
     ensures admitted { IsSome result.aside → intake.old.admits_own ≡ true }
-    ensures same_clients { KeepsClients mux.old mux.new }
+    ensures same_clients { KeepsOpen board.old board.new }
     ensures ready { IsReady intake.old.frames → IsReady intake.new.frames }
     ensures same_terms { terms_of intake.new ≡ terms_of intake.old }
     ensures same_own { intake.new.admits_own ≡ intake.old.admits_own }
 {
     let mut used = 0;
-    while used < piece.len() && settings.has_room(mux, who) {
+    while used < piece.len() && settings.has_room(board, route) {
         match take_one(
             alloc,
             settings,
@@ -74,8 +75,8 @@ pub(crate) fn take_commands(
             counts,
             unfinished,
             identity,
-            mux,
-            who,
+            board,
+            route,
             &piece[used..],
         ) {
             // This never happens, since a part has a byte. It shows that the loop ends.
@@ -115,20 +116,20 @@ fn take_one(
     counts: &mut ProxyCounts,
     unfinished: &mut Unfinished,
     identity: &mut Identity,
-    mux: &mut Mux,
-    who: ClientId,
+    board: &mut Board,
+    route: Route,
     piece: &[u8],
 ) -> Result<Part, ClientError>
     ensures taken { WhereUnfinished intake.old unfinished.old (λ front. IfOk result (λ part.
-        TakesOne (terms_of intake.old) who front piece.now unfinished.new part mux.old mux.new)) }
+        TakesOne (terms_of intake.old) route front piece.now unfinished.new part board.old board.new)) }
     ensures refused { WhereUnfinished intake.old unfinished.old (λ front.
         IfErr result (Refuses (terms_of intake.old) (front ++ piece.now))) }
-    ensures open { (waiting_for mux.old who ≡ None → ⊥) → IfErr result IsOfBytes }
+    ensures open { (waiting_for board.old route.client ≡ None → ⊥) → IfErr result IsOfBytes }
     ensures progress { WhereUnfinished intake.old unfinished.old (λ front. IfOk result MovesOn) }
-    ensures unchanged { OnErr result (KeepsPassed mux.old mux.new) }
+    ensures unchanged { OnErr result (KeepsRun board.old board.new) }
     ensures within { IfOk result (λ part. part_used part ≤ length piece.now) }
     ensures admitted { IfOk result (λ part. IsAside part → intake.old.admits_own ≡ true) }
-    ensures same_clients { KeepsClients mux.old mux.new }
+    ensures same_clients { KeepsOpen board.old board.new }
     ensures ready { IsReady intake.old.frames → IsReady intake.new.frames }
     ensures same_terms { terms_of intake.new ≡ terms_of intake.old }
     ensures same_own { intake.new.admits_own ≡ intake.old.admits_own }
@@ -141,8 +142,8 @@ fn take_one(
             counts,
             &mut unfinished.line,
             identity,
-            mux,
-            who,
+            board,
+            route,
             piece,
         )
     } else {
@@ -153,8 +154,8 @@ fn take_one(
             counts,
             &mut unfinished.begun,
             identity,
-            mux,
-            who,
+            board,
+            route,
             piece,
         )
     }
@@ -169,20 +170,20 @@ fn take_array(
     counts: &mut ProxyCounts,
     begun: &mut Begun,
     identity: &mut Identity,
-    mux: &mut Mux,
-    who: ClientId,
+    board: &mut Board,
+    route: Route,
     piece: &[u8],
 ) -> Result<Part, ClientError>
     ensures taken { WhereBegun intake.old.frames begun.old (λ front. IfOk result (λ part.
-        TakesArray (terms_of intake.old) who front piece.now begun.new part mux.old mux.new)) }
+        TakesArray (terms_of intake.old) route front piece.now begun.new part board.old board.new)) }
     ensures refused { WhereBegun intake.old.frames begun.old (λ front.
         IfErr result (Refuses (terms_of intake.old) (front ++ piece.now))) }
-    ensures open { (waiting_for mux.old who ≡ None → ⊥) → IfErr result IsOfBytes }
+    ensures open { (waiting_for board.old route.client ≡ None → ⊥) → IfErr result IsOfBytes }
     ensures progress { WhereBegun intake.old.frames begun.old (λ front. IfOk result MovesOn) }
-    ensures unchanged { OnErr result (KeepsPassed mux.old mux.new) }
+    ensures unchanged { OnErr result (KeepsRun board.old board.new) }
     ensures within { IfOk result (λ part. part_used part ≤ length piece.now) }
     ensures admitted { IfOk result (λ part. IsAside part → intake.old.admits_own ≡ true) }
-    ensures same_clients { KeepsClients mux.old mux.new }
+    ensures same_clients { KeepsOpen board.old board.new }
     ensures ready { IsReady intake.old.frames → IsReady intake.new.frames }
     ensures same_terms { terms_of intake.new ≡ terms_of intake.old }
     ensures same_own { intake.new.admits_own ≡ intake.old.admits_own }
@@ -204,7 +205,7 @@ fn take_array(
         };
     }
     match carry_out(
-        alloc, settings, intake, counts, identity, mux, who, &command,
+        alloc, settings, intake, counts, identity, board, route, &command,
     ) {
         Ok(()) => Ok(Part::Whole(used)),
         Err(error) => Err(error),

@@ -3,7 +3,7 @@
 use crate::error_counts::ErrorCounts;
 use crate::latency::{Latency, Times};
 use crate::name_counts::NameCounts;
-use resp_mux::Mux;
+use resp_board::{Board, LineId};
 use std::alloc::{AllocError, Global};
 use std::time::Duration;
 
@@ -98,7 +98,7 @@ pub enum Counted {
 /// The counts of a proxy, and the times of its replies.
 #[derive(Drop)]
 pub(crate) struct ProxyCounts {
-    /// The clients of the multiplexer that are the proxy's own.
+    /// The clients of the board that are the proxy's own.
     hidden: u64,
     /// The clients that came from another proxy, or came back.
     entered: u64,
@@ -141,12 +141,12 @@ impl ProxyCounts {
         })
     }
 
-    /// Returns the numbers, with those of the multiplexer.
-    pub(crate) fn numbers(&self, mux: &Mux) -> Numbers {
-        let open = mux.open_clients() as u64;
+    /// Returns the numbers, with those of the board.
+    pub(crate) fn numbers(&self, board: &Board, line: LineId) -> Numbers {
+        let open = board.open_clients() as u64;
         Numbers {
             clients: self.own.saturating_add(open.saturating_sub(self.hidden)),
-            accepted: mux
+            accepted: board
                 .opened_clients()
                 .saturating_sub(self.hidden)
                 .saturating_sub(self.entered),
@@ -156,15 +156,15 @@ impl ProxyCounts {
             commands: self.commands,
             failed: self.failed,
             connections: self.connections,
-            waiting: mux.waiting() as u64,
-            unsent: mux.to_server().len() as u64,
+            waiting: board.waiting(line) as u64,
+            unsent: board.to_server(line).len() as u64,
             lines: 1,
         }
     }
 
     /// Returns the numbers of all proxies of the program.
-    pub(crate) fn all(&self, mux: &Mux) -> Numbers {
-        self.numbers(mux).plus(self.others)
+    pub(crate) fn all(&self, board: &Board, line: LineId) -> Numbers {
+        self.numbers(board, line).plus(self.others)
     }
 
     /// Returns how long replies took, over all proxies of the program.
@@ -211,7 +211,7 @@ impl ProxyCounts {
         self.latency.take_times(&mut other.latency);
     }
 
-    /// Does not count a client of the multiplexer, because it is the proxy's own.
+    /// Does not count a client of the board, because it is the proxy's own.
     pub(crate) fn hide_client(&mut self) {
         self.hidden = self.hidden.saturating_add(1);
     }

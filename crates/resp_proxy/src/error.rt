@@ -1,7 +1,6 @@
 //! The errors of a proxy.
 
 use resp_frames::FrameError;
-use resp_join::ReplyError;
 use thiserror::Error;
 
 /// The name of a command, as the table of commands has it.
@@ -55,10 +54,18 @@ pub enum ClientError {
 /// [`Proxy::lose`](crate::Proxy::lose).
 #[derive(Clone, Copy, Debug, PartialEq, Eq, Error)]
 pub enum ServerError {
-    /// A byte was rejected, a value is a push, no command of which a byte was sent is waiting, or
-    /// memory ran out.
+    /// A byte was rejected.
     #[error(transparent)]
-    Reply(ReplyError),
+    Frame(FrameError),
+    /// The value is a push, which no command waits for.
+    #[error("a push came over a shared connection")]
+    Push,
+    /// No command of which a byte was sent waits.
+    #[error("no command waits for this reply")]
+    Unasked,
+    /// An allocation failed.
+    #[error("out of memory")]
+    OutOfMemory,
     /// A reply to a probe is not the expected one. Call
     /// [`Proxy::lose_out_of_step`](crate::Proxy::lose_out_of_step) instead of `lose`.
     #[error("out of step, since a probe got another reply")]

@@ -25,6 +25,7 @@ mod part;
 mod probing;
 mod proxy;
 mod replies;
+mod route;
 mod setting;
 mod settings;
 mod taking;

@@ -3,7 +3,7 @@
 ghost use Rattle.std.specs.Prelude.{◌≡◌, ◌++◌, ◌∷◌, ◌≤◌, None, [], length, true, IfErr, IfOk, IsTrue, OnErr, OnOk};
 ghost use Rattle.resp_frames.specs.Commands.{IsCommand};
 ghost use Rattle.resp_line.specs.Inline.{GoesOn};
-ghost use Rattle.resp_mux.specs.Multiplexing.{KeepsClients, KeepsPassed, waiting_for};
+ghost use Rattle.resp_board.specs.Runs.{KeepsOpen, KeepsRun, waiting_for};
 ghost use Rattle.resp_proxy.specs.Leaving.{IsAside, part_used};
 ghost use Rattle.resp_proxy.specs.Reasons.{BeginsForOwn, MovesOn, RefusesArray, inline_error};
 ghost use Rattle.resp_proxy.specs.Refusing.{IsOfBytes, Refuses};
@@ -16,10 +16,11 @@ use crate::error::ClientError;
 use crate::identity::Identity;
 use crate::intake::Intake;
 use crate::part::Part;
+use crate::route::Route;
 use crate::settings::Settings;
+use resp_board::Board;
 use resp_frames::command_of_piece;
 use resp_line::{InlineCommand, InlineError, next_inline};
-use resp_mux::{ClientId, Mux};
 use resp_value::laws::no_spelling_begins_another;
 use std::alloc::{AllocError, Global};
 
@@ -32,21 +33,21 @@ pub(crate) fn take_line(
     counts: &mut ProxyCounts,
     line: &mut Vec<u8>,
     identity: &mut Identity,
-    mux: &mut Mux,
-    who: ClientId,
+    board: &mut Board,
+    route: Route,
     piece: &[u8],
 ) -> Result<Part, ClientError>
     ensures taken { (terms_of intake.now).lines ≡ true → GoesOn line.old.items piece.now →
-        IfOk result (λ part. TakesLine (terms_of intake.now) who line.old.items piece.now
-        line.new.items part mux.old mux.new) }
+        IfOk result (λ part. TakesLine (terms_of intake.now) route line.old.items piece.now
+        line.new.items part board.old board.new) }
     ensures refused { (terms_of intake.now).lines ≡ true → GoesOn line.old.items piece.now →
         IfErr result (Refuses (terms_of intake.now) (line.old.items ++ piece.now)) }
-    ensures open { (waiting_for mux.old who ≡ None → ⊥) → IfErr result IsOfBytes }
-    ensures unchanged { OnErr result (KeepsPassed mux.old mux.new) }
+    ensures open { (waiting_for board.old route.client ≡ None → ⊥) → IfErr result IsOfBytes }
+    ensures unchanged { OnErr result (KeepsRun board.old board.new) }
     ensures progress { IfOk result MovesOn }
     ensures within { IfOk result (λ part. part_used part ≤ length piece.now) }
     ensures admitted { IfOk result (λ part. IsAside part → intake.now.admits_own ≡ true) }
-    ensures same_clients { KeepsClients mux.old mux.new }
+    ensures same_clients { KeepsOpen board.old board.new }
 {
     no_spelling_begins_another();
     let command = match next_inline(alloc, &intake.frames.limits(), line, piece) {
@@ -74,8 +75,8 @@ pub(crate) fn take_line(
         intake,
         counts,
         identity,
-        mux,
-        who,
+        board,
+        route,
         text.as_slice(),
     ) {
         Ok(()) => Ok(Part::Whole(used)),
@@ -127,22 +128,22 @@ fn carry_out_text(
     intake: &Intake,
     counts: &mut ProxyCounts,
     identity: &mut Identity,
-    mux: &mut Mux,
-    who: ClientId,
+    board: &mut Board,
+    route: Route,
     text: &[u8],
 ) -> Result<(), ClientError>
     ensures carried { IsCommand (terms_of intake.now).rules.limits text.now →
-        OnOk result (Carries (terms_of intake.now) who text.now mux.old mux.new) }
+        OnOk result (Carries (terms_of intake.now) route text.now board.old board.new) }
     ensures refused { IsCommand (terms_of intake.now).rules.limits text.now →
         IfErr result (RefusesArray (terms_of intake.now).rules.limits text.now) }
-    ensures open { (waiting_for mux.old who ≡ None → ⊥) → IfErr result IsOfBytes }
-    ensures unchanged { OnErr result (KeepsPassed mux.old mux.new) }
-    ensures same_clients { KeepsClients mux.old mux.new }
+    ensures open { (waiting_for board.old route.client ≡ None → ⊥) → IfErr result IsOfBytes }
+    ensures unchanged { OnErr result (KeepsRun board.old board.new) }
+    ensures same_clients { KeepsOpen board.old board.new }
 {
     no_spelling_begins_another();
     match command_of_piece(text, &intake.frames.limits()) {
         Some(command) => carry_out(
-            alloc, settings, intake, counts, identity, mux, who, &command,
+            alloc, settings, intake, counts, identity, board, route, &command,
         ),
         None => Err(ClientError::OverLimits),
     }

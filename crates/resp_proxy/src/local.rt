@@ -3,8 +3,8 @@
 use crate::counts::{Numbers, ProxyCounts};
 use crate::latency::Times;
 use crate::settings::Settings;
+use resp_board::{Board, LineId};
 use resp_frames::CommandFrame;
-use resp_mux::Mux;
 use resp_scan::whole;
 use std::alloc::{AllocError, Global};
 
@@ -18,7 +18,8 @@ pub(crate) fn local_answer(
     alloc: Global,
     settings: &Settings,
     counts: &ProxyCounts,
-    mux: &Mux,
+    board: &Board,
+    line: LineId,
     command: &CommandFrame,
 ) -> Result<Option<Vec<u8>>, AllocError> {
     if !may_be_answered(command) {
@@ -28,7 +29,7 @@ pub(crate) fn local_answer(
         return Ok(None);
     };
     if name.eq_ignore_ascii_case(b"INFO") {
-        return info(alloc, settings, counts, mux, command.frame.text());
+        return info(alloc, settings, counts, board, line, command.frame.text());
     }
     if settings.local_ping && name.eq_ignore_ascii_case(b"PING") {
         return pong(alloc, settings, command.frame.text());
@@ -52,7 +53,8 @@ fn info(
     alloc: Global,
     settings: &Settings,
     counts: &ProxyCounts,
-    mux: &Mux,
+    board: &Board,
+    line: LineId,
     text: &[u8],
 ) -> Result<Option<Vec<u8>>, AllocError> {
     let Some(words) = whole::command(text, &settings.limits) else {
@@ -63,12 +65,17 @@ fn info(
     if !words.name.eq_ignore_ascii_case(b"INFO") || !section.eq_ignore_ascii_case(b"proxy") {
         return Ok(None);
     }
-    let section = section_of(alloc, counts, mux)?;
+    let section = section_of(alloc, counts, board, line)?;
     bulk(alloc, section.as_str().as_bytes())
 }
 
 /// Returns the text of the section `proxy`.
-fn section_of(alloc: Global, counts: &ProxyCounts, mux: &Mux) -> Result<String, AllocError> {
+fn section_of(
+    alloc: Global,
+    counts: &ProxyCounts,
+    board: &Board,
+    line: LineId,
+) -> Result<String, AllocError> {
     let Numbers {
         clients,
         accepted,
@@ -81,7 +88,7 @@ fn section_of(alloc: Global, counts: &ProxyCounts, mux: &Mux) -> Result<String, 
         waiting,
         unsent,
         lines,
-    } = counts.all(mux);
+    } = counts.all(board, line);
     let Times {
         median,
         percentile_99,

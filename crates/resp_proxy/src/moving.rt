@@ -1,12 +1,12 @@
 //! Clients that move from one proxy to another, or to a connection of their own.
 
 ghost use Rattle.std.specs.Prelude.{◌≡◌, ◌↔◌, ◌++◌, ◌≤◌, List, ℕ, drop, false, length, IfErr, IfOk, IsTrue, OnErr};
-ghost use Rattle.resp_mux.specs.Multiplexing.{HasClosed, KeepsPassed};
+ghost use Rattle.resp_board.specs.Runs.{HasClosed, KeepsRun};
 ghost use Rattle.resp_proxy.specs.Clients.{Holds, client_id, is_closing, is_leaving, waits_for_room};
-ghost use Rattle.resp_proxy.specs.Moving.{HasEntered, MayLeave, number_of, rest_of};
+ghost use Rattle.resp_proxy.specs.Moving.{HasEntered, MayLeave, identity_in, identity_of, name_of, number_of, rest_of};
 ghost use Rattle.resp_proxy.specs.Hellos.{IsReplyWithNumber, own_reply};
 ghost use Rattle.resp_value.specs.Canonical.{canonical_text};
-ghost use Rattle.resp_proxy.specs.Proxies.{mux_of, replied_to, reply_rules_of, terms_of};
+ghost use Rattle.resp_proxy.specs.Proxies.{board_in, replied_to, reply_rules_of, terms_of};
 
 use crate::answer::is_name;
 use crate::client::Client;
@@ -15,8 +15,9 @@ use crate::giving::has_all;
 use crate::hello::{hello_text, with_number};
 use crate::identity::Identity;
 use crate::proxy::Proxy;
+use crate::route::Route;
 use bytes::BytesMut;
-use resp_mux::OpenError;
+use resp_board::OpenError;
 use resp_value::version::Version;
 use std::alloc::{AllocError, Global};
 
@@ -55,6 +56,7 @@ impl Departed {
 
     /// Gives the client a name, as HELLO does with SETNAME. An empty name means no name.
     pub fn set_name(&mut self, name: Vec<u8>)
+        ensures named { name_of self.new ≡ name.items }
         ensures same_rest { rest_of self.new ≡ rest_of self.old }
         ensures same_number { number_of self.new ≡ number_of self.old }
     {
@@ -95,9 +97,9 @@ impl Proxy {
     /// Returns whether a client is leaving, no command of it waits, and all its replies were
     /// written. Call [`Proxy::leave`] then.
     pub fn may_leave(&self, client: &Client) -> bool
-        ensures { IsTrue result ↔ MayLeave (mux_of self.now) client.now }
+        ensures { IsTrue result ↔ MayLeave (board_in self.now) client.now }
     {
-        client.is_leaving && has_all(&self.mux, client.id)
+        client.is_leaving && has_all(&self.board, client.route.client)
     }
 
     /// Closes a client that may leave: its next command needs another connection, and it has got
@@ -108,20 +110,20 @@ impl Proxy {
     ///
     /// The client, if it may not leave. Nothing changes.
     pub fn leave(&mut self, client: Client) -> Result<Departed, Client>
-        ensures left { IfOk result (λ departed. MayLeave (mux_of self.old) client) }
+        ensures left { IfOk result (λ departed. MayLeave (board_in self.old) client) }
         ensures bytes { IfOk result (λ departed. rest_of departed ≡ waits_for_room client) }
         ensures closed { IfOk result (λ departed.
-            HasClosed (mux_of self.old) (mux_of self.new) (client_id client)) }
+            HasClosed (board_in self.old) (board_in self.new) (client_id client)) }
         ensures stays { IfErr result (λ same. (same ≡ client) × (self.new ≡ self.old) ×
-            (MayLeave (mux_of self.old) client → ⊥)) }
-        ensures passed { KeepsPassed (mux_of self.old) (mux_of self.new) }
+            (MayLeave (board_in self.old) client → ⊥)) }
+        ensures run { KeepsRun (board_in self.old) (board_in self.new) }
         ensures same_terms { terms_of self.new ≡ terms_of self.old }
         ensures same_replied { replied_to self.new ≡ replied_to self.old }
     {
         if !self.may_leave(&client) {
             return Err(client);
         }
-        self.mux.close(client.id);
+        self.board.close(client.route.client);
         let Client { identity, rest, .. } = client;
         Ok(Departed { identity, rest })
     }
@@ -134,27 +136,32 @@ impl Proxy {
     /// Those of [`Proxy::open`]. What the client had is lost.
     pub fn enter(&mut self, departed: Departed, reply: &[u8]) -> Result<Client, OpenError>
         ensures entered { IfOk result (λ client.
-            HasEntered (mux_of self.old) (mux_of self.new) (client_id client) reply.now) }
+            HasEntered (board_in self.old) (board_in self.new) (client_id client) reply.now) }
         ensures holds { IfOk result (λ client.
             Holds (terms_of self.new) client (rest_of departed)) }
         ensures is_open { IfOk result (λ client. is_closing client ≡ false) }
         ensures shares { IfOk result (λ client. is_leaving client ≡ false) }
-        ensures unchanged { OnErr result (KeepsPassed (mux_of self.old) (mux_of self.new)) }
+        ensures identity { IfOk result (λ client. identity_in client ≡ identity_of departed) }
+        ensures unchanged { OnErr result (KeepsRun (board_in self.old) (board_in self.new)) }
         ensures same_terms { terms_of self.new ≡ terms_of self.old }
         ensures same_reply_rules { reply_rules_of self.new ≡ reply_rules_of self.old }
         ensures same_replied { replied_to self.new ≡ replied_to self.old }
     {
-        let id = match self.mux.open() {
+        let id = match self.board.open() {
             Ok(id) => id,
             Err(error) => return Err(error),
         };
-        if self.mux.own(id, reply).is_err() {
-            self.mux.close(id);
+        if self.board.own(id, reply).is_err() {
+            self.board.close(id);
             return Err(OpenError::OutOfMemory);
         }
         self.counts.add(Counted::Entered);
         let Departed { identity, rest } = departed;
-        let mut client = Client::new(self.alloc, id);
+        let route = Route {
+            client: id,
+            line: self.line,
+        };
+        let mut client = Client::new(self.alloc, route);
         client.identity = identity;
         client.rest = rest;
         Ok(client)

@@ -4,7 +4,7 @@ ghost use Rattle.std.specs.Prelude.{◌≡◌, ℕ, List, ◌⊎◌, ◌++◌, N
 ghost use Rattle.resp_proxy.specs.Probing.{AreInStep, IsAnother, echo_text, echoed_text};
 
 use bytes::BytesMut;
-use resp_mux::{ClientId, Mux};
+use resp_board::{Board, ClientId};
 use std::alloc::{AllocError, Global};
 
 /// The bytes of the reply to a probe.
@@ -31,16 +31,16 @@ impl Prober {
     }
 
     /// Returns whether the replies to probes are the expected ones.
-    pub(crate) fn is_in_step(&self, mux: &Mux) -> bool
+    pub(crate) fn is_in_step(&self, board: &Board) -> bool
         ensures in_step { IsTrue result →
-            AreInStep self.now.who self.now.expected.items mux.now }
+            AreInStep self.now.who self.now.expected.items board.now }
         ensures out_of_step { result ≡ false →
-            AreInStep self.now.who self.now.expected.items mux.now → ⊥ }
+            AreInStep self.now.who self.now.expected.items board.now → ⊥ }
     {
         let Some(who) = self.who else {
             return true;
         };
-        match mux.to_client(who) {
+        match board.to_client(who) {
             Some(text) => self.expected.as_slice().starts_with(text),
             None => true,
         }
@@ -48,15 +48,15 @@ impl Prober {
 
     /// Returns whether the replies to probes are still the expected ones, after a reply to this client.
     #[inline(always)]
-    pub(crate) fn stays_in_step(&self, mux: &Mux, replied: ClientId) -> bool
+    pub(crate) fn stays_in_step(&self, board: &Board, replied: ClientId) -> bool
         ensures in_step { IsTrue result → IsAnother self.now.who replied ⊎
-            AreInStep self.now.who self.now.expected.items mux.now }
+            AreInStep self.now.who self.now.expected.items board.now }
         ensures out_of_step { result ≡ false →
-            AreInStep self.now.who self.now.expected.items mux.now → ⊥ }
+            AreInStep self.now.who self.now.expected.items board.now → ⊥ }
     {
         match self.who {
             Some(who) if who.place == replied.place && who.number == replied.number => {
-                self.is_in_step(mux)
+                self.is_in_step(board)
             }
             _ => true,
         }
@@ -75,7 +75,7 @@ impl Prober {
 
     /// Keeps only this many of the expected replies, for the commands that wait: those that were
     /// expected last.
-    pub(crate) fn keep(&mut self, waiting: u32)
+    pub(crate) fn keep(&mut self, waiting: u64)
         ensures rest { (gone : List ℕ) × (self.old.expected.items ≡ gone ++ self.new.expected.items) }
         ensures same_client { self.new.who ≡ self.old.who }
     {

@@ -2,11 +2,12 @@
 
 ghost use Rattle.std.specs.Prelude.{◌≡◌, ◌↔◌, ◌⊎◌, ◌++◌, ℕ, List, None, Some, true, false, [], drop, length, slice_get, take, unwrap_or, IfOk, IfSome, IsErrOf, IsTrue, OnErr, OnOk};
 ghost use Rattle.resp_frames.specs.Framing.{HasBegun};
-ghost use Rattle.resp_mux.specs.Multiplexing.{HasAnsweredSome, HasClosed, HasNoNumberLeft, HasOpened, HasPassed, KeepsBytes, KeepsClients, KeepsPassed, WherePassed, begun_count, unsent, waiting_clients, waiting_for};
-ghost use Rattle.resp_mux.specs.Passing.{nothing_passed, with_command, with_given, with_loss};
-ghost use Rattle.resp_proxy.specs.Clients.{Holds, client_id, is_closing, is_leaving, waits_for_room};
-ghost use Rattle.resp_proxy.specs.Room.{HasRoom};
-ghost use Rattle.resp_proxy.specs.Failing.{Fails, FailsSome};
+ghost use Rattle.resp_board.specs.Boards.{Ask, Fail};
+ghost use Rattle.resp_board.specs.Histories.{nothing_happened, with_given};
+ghost use Rattle.resp_board.specs.Runs.{HasAnsweredSome, HasClosed, HasNoIdLeft, HasOpened, HasRun, KeepsBytes, KeepsOpen, KeepsRun, Runs, WhereRun, bounds_of, clients_on, unsent_on, waiting_for, waiting_on};
+ghost use Rattle.resp_proxy.specs.Clients.{Holds, client_id, is_closing, is_leaving, route_of, waits_for_room};
+ghost use Rattle.resp_proxy.specs.Room.{HasRoom, bounds_by};
+ghost use Rattle.resp_proxy.specs.Failing.{FailsSome, Loses};
 ghost use Rattle.resp_proxy.specs.Probing.{KeepsStep, echo_text, echoed_text};
 ghost use Rattle.resp_proxy.specs.Replying.{TakesReplies};
 ghost use Rattle.resp_proxy.specs.Taking.{TakesIn};
@@ -17,7 +18,7 @@ ghost use Rattle.resp_proxy.specs.Visiting.{GivesSome, HasNothingFor, IsDone, Se
 ghost use Rattle.resp_io.specs.Devices.{count_after};
 ghost use Rattle.resp_value.specs.Rules.{Rules, rules_under};
 ghost use Rattle.resp_proxy.specs.Leaving.{LeavesRightly};
-ghost use Rattle.resp_proxy.specs.Proxies.{HasBegunBy, HasNoClient, HasRoomFor, WhereBegunBy, WhereHeld, expected_of, lost_text, out_of_step_text, prober_of, admits_own, mux_of, replied_to, reply_rules_of, terms_of, server_begun, settings_of, with_own_admitted, with_replied, with_terms};
+ghost use Rattle.resp_proxy.specs.Proxies.{HasBegunBy, HasNoClient, HasRoomFor, WhereBegunBy, WhereHeld, expected_of, line_of, lost_text, out_of_step_text, prober_of, admits_own, board_in, replied_to, reply_rules_of, terms_of, server_begun, settings_of, with_own_admitted, with_replied, with_terms};
 
 use crate::client::Client;
 use crate::counts::{Counted, Numbers, ProxyCounts};
@@ -27,13 +28,14 @@ use crate::intake::Intake;
 use crate::latency::Times;
 use crate::probing::{Prober, echo};
 use crate::replies::take_replies;
+use crate::route::Route;
 use crate::settings::Settings;
 use crate::taking::{shut, take_in};
-use crate::told::note_begun;
+use crate::told::note_first;
 use bytes::BytesMut;
+use resp_board::{AskError, Board, Bounds, ClientId, LineId, OpenError};
 use resp_frames::{Begun, Frames};
 use resp_io::device::Sink;
-use resp_mux::{Bounds, ClientId, ForwardError, Mux, OpenError};
 use std::alloc::{AllocError, Global};
 use std::collections::VecDeque;
 use std::marker::Model;
@@ -49,7 +51,9 @@ const OUT_OF_STEP: &[u8] = b"-ERR connection to server out of step; the command 
 pub struct Proxy {
     pub(crate) alloc: Global,
     settings: Settings,
-    pub(crate) mux: Mux,
+    pub(crate) board: Board,
+    /// The line to which the commands of all clients go.
+    pub(crate) line: LineId,
     /// The commands of all clients.
     pub(crate) intake: Intake,
     pub(crate) counts: ProxyCounts,
@@ -70,7 +74,8 @@ impl Model for Proxy {
     ghost Value = { Proxied };
 
     ghost view = { λ p. record {
-      mux = p.mux;
+      board = p.board;
+      line = p.line.place;
       settings = p.settings;
       terms = intake_terms p.intake;
       reply_rules = frame_rules p.replies;
@@ -91,8 +96,9 @@ impl Proxy {
     ///
     /// `AllocError` if an allocation fails.
     pub fn new(alloc: Global, settings: Settings) -> Result<Proxy, AllocError>
-        ensures passed { IfOk result (λ proxy. HasPassed (mux_of proxy) nothing_passed) }
-        ensures no_clients { IfOk result (λ proxy. HasNoClient (mux_of proxy)) }
+        ensures run { IfOk result (λ proxy. HasRun (board_in proxy) nothing_happened) }
+        ensures no_clients { IfOk result (λ proxy. HasNoClient (board_in proxy)) }
+        ensures bounds { IfOk result (λ proxy. bounds_of (board_in proxy) ≡ bounds_by settings) }
         ensures begun { IfOk result (λ proxy. HasBegunBy proxy []) }
         ensures nobody { IfOk result (λ proxy. replied_to proxy ≡ []) }
         ensures settings { IfOk result (λ proxy. settings_of proxy ≡ settings) }
@@ -104,13 +110,16 @@ impl Proxy {
         let intake = Intake::new(alloc, &settings)?;
         let replies = Frames::new(alloc, settings.version, &settings.limits)?;
         let bounds = Bounds {
-            waiting: settings.waiting,
+            waiting: settings.waiting as u64,
             unsent: usize::MAX,
         };
+        let mut board = Board::new(alloc, bounds);
+        let line = board.open_line()?;
         Ok(Proxy {
             alloc,
             settings,
-            mux: Mux::new(alloc, bounds),
+            board,
+            line,
             intake,
             counts: ProxyCounts::new(alloc)?,
             replies,
@@ -144,17 +153,24 @@ impl Proxy {
     /// fails. Nothing changes.
     pub fn open(&mut self) -> Result<Client, OpenError>
         ensures opened { IfOk result (λ client.
-            HasOpened (mux_of self.old) (mux_of self.new) (client_id client)) }
+            HasOpened (board_in self.old) (board_in self.new) (client_id client)) }
         ensures nothing { IfOk result (λ client. Holds (terms_of self.new) client []) }
         ensures is_open { IfOk result (λ client. is_closing client ≡ false) }
-        ensures passed { KeepsPassed (mux_of self.old) (mux_of self.new) }
-        ensures too_many { IsErrOf result OpenError.TooMany ↔ HasNoNumberLeft (mux_of self.old) }
-        ensures unchanged { OnErr result (KeepsClients (mux_of self.old) (mux_of self.new)) }
+        ensures stays { IfOk result (λ client. is_leaving client ≡ false) }
+        ensures run { KeepsRun (board_in self.old) (board_in self.new) }
+        ensures too_many { IsErrOf result OpenError.TooMany ↔ HasNoIdLeft (board_in self.old) }
+        ensures unchanged { OnErr result (KeepsOpen (board_in self.old) (board_in self.new)) }
         ensures same_terms { terms_of self.new ≡ terms_of self.old }
         ensures same_replied { replied_to self.new ≡ replied_to self.old }
     {
-        match self.mux.open() {
-            Ok(id) => Ok(Client::new(self.alloc, id)),
+        match self.board.open() {
+            Ok(client) => Ok(Client::new(
+                self.alloc,
+                Route {
+                    client,
+                    line: self.line,
+                },
+            )),
             Err(error) => Err(error),
         }
     }
@@ -166,12 +182,12 @@ impl Proxy {
     /// Those of [`Proxy::open`]. Nothing changes.
     pub fn open_prober(&mut self) -> Result<(), OpenError>
         ensures opened { OnOk result ((who : ClientId) × (prober_of self.new ≡ Some who) ×
-            HasOpened (mux_of self.old) (mux_of self.new) who) }
+            HasOpened (board_in self.old) (board_in self.new) who) }
         ensures expected { OnOk result (expected_of self.new ≡ []) }
-        ensures passed { KeepsPassed (mux_of self.old) (mux_of self.new) }
+        ensures run { KeepsRun (board_in self.old) (board_in self.new) }
         ensures same_terms { terms_of self.new ≡ terms_of self.old }
     {
-        match self.mux.open() {
+        match self.board.open() {
             Ok(who) => {
                 self.prober = Prober::none(self.alloc);
                 self.prober.who = Some(who);
@@ -195,29 +211,29 @@ impl Proxy {
     ///
     /// `NoClient` without [`Proxy::open_prober`], `ClientFull` if [`Settings::waiting`] probes wait, and
     /// `OutOfMemory` if an allocation fails. Nothing changes.
-    pub fn probe(&mut self, word: &[u8; 32]) -> Result<(), ForwardError>
+    pub fn probe(&mut self, word: &[u8; 32]) -> Result<(), AskError>
         // The command is one of this client, and its reply is expected behind the others.
         ensures probed { OnOk result (IfSome (prober_of self.old) (λ who.
-            WherePassed (mux_of self.old) (λ p.
-            HasPassed (mux_of self.new) (with_command who (echo_text word.now) p)))) }
+            Runs (Ask who (line_of self.old) (echo_text word.now)) (board_in self.old)
+            (board_in self.new))) }
         ensures expected { OnOk result
             (expected_of self.new ≡ expected_of self.old ++ echoed_text word.now) }
-        ensures unchanged { OnErr result (KeepsPassed (mux_of self.old) (mux_of self.new)) }
+        ensures unchanged { OnErr result (KeepsRun (board_in self.old) (board_in self.new)) }
         ensures same_prober { prober_of self.new ≡ prober_of self.old }
-        ensures same_clients { KeepsClients (mux_of self.old) (mux_of self.new) }
+        ensures same_clients { KeepsOpen (board_in self.old) (board_in self.new) }
         ensures same_terms { terms_of self.new ≡ terms_of self.old }
     {
         let Some(who) = self.prober.who else {
-            return Err(ForwardError::NoClient);
+            return Err(AskError::NoClient);
         };
         let Ok(text) = echo(self.alloc, word) else {
-            return Err(ForwardError::OutOfMemory);
+            return Err(AskError::OutOfMemory);
         };
         let before = self.prober.expected.len();
         if self.prober.expect(self.alloc, word).is_err() {
-            return Err(ForwardError::OutOfMemory);
+            return Err(AskError::OutOfMemory);
         }
-        match self.mux.forward(who, &text) {
+        match self.board.ask(who, self.line, &text) {
             Ok(()) => Ok(()),
             Err(error) => {
                 self.prober.expected.truncate(before);
@@ -230,42 +246,42 @@ impl Proxy {
     /// lost with the connection. Call it after each visit of the server, and after [`Proxy::lose`],
     /// [`Proxy::lose_out_of_step`] and [`Proxy::fail`].
     pub fn settle_probes(&mut self)
-        ensures given { IfSome (prober_of self.old) (λ who. WherePassed (mux_of self.old) (λ p.
-            IfSome (waiting_for (mux_of self.old) who) (λ text.
-            HasPassed (mux_of self.new) (with_given who text p)))) }
+        ensures given { IfSome (prober_of self.old) (λ who. WhereRun (board_in self.old) (λ h.
+            IfSome (waiting_for (board_in self.old) who) (λ text.
+            HasRun (board_in self.new) (with_given who text h)))) }
         ensures expected { (gone : List ℕ) × (expected_of self.old ≡ gone ++ expected_of self.new) }
         ensures same_prober { prober_of self.new ≡ prober_of self.old }
-        ensures same_clients { KeepsClients (mux_of self.old) (mux_of self.new) }
+        ensures same_clients { KeepsOpen (board_in self.old) (board_in self.new) }
         ensures same_terms { terms_of self.new ≡ terms_of self.old }
     {
         let Some(who) = self.prober.who else {
             return;
         };
-        let Some(text) = self.mux.to_client(who) else {
+        let Some(text) = self.board.to_client(who) else {
             return;
         };
         let count = text.len();
-        self.mux.given(who, count);
-        let waiting = self.mux.waiting_of(who).unwrap_or(0);
+        self.board.given(who, count);
+        let waiting = self.board.waiting_of(who).unwrap_or(0);
         self.prober.keep(waiting);
     }
 
     /// Closes a client. No client gets the missing replies. Its commands still go to the server.
     pub fn close(&mut self, client: Client)
-        ensures closed { HasClosed (mux_of self.old) (mux_of self.new) (client_id client) }
-        ensures passed { KeepsPassed (mux_of self.old) (mux_of self.new) }
+        ensures closed { HasClosed (board_in self.old) (board_in self.new) (client_id client) }
+        ensures run { KeepsRun (board_in self.old) (board_in self.new) }
         ensures same_terms { terms_of self.new ≡ terms_of self.old }
         ensures same_replied { replied_to self.new ≡ replied_to self.old }
     {
-        self.mux.close(client.id);
+        self.board.close(client.route.client);
     }
 
     /// Returns whether a command of this client may be taken now.
     pub fn has_room(&self, client: &Client) -> bool
         ensures { IsTrue result ↔
-            HasRoom (settings_of self.now) (mux_of self.now) (client_id client.now) }
+            HasRoom (settings_of self.now) (board_in self.now) (route_of client.now) }
     {
-        self.settings.has_room(&self.mux, client.id)
+        self.settings.has_room(&self.board, client.route)
     }
 
     /// Takes bytes that a client sent. Each command for which there is room is queued for the server,
@@ -282,11 +298,11 @@ impl Proxy {
     /// The client is closing afterwards, and the bytes that are not a whole command are lost.
     pub fn from_client(&mut self, client: &mut Client, piece: &[u8]) -> Result<(), ClientError>
         ensures taken { WhereHeld self.old client.old (λ held.
-            TakesIn (terms_of self.old) (client_id client.old) (held ++ piece.now) client.new
-            result (mux_of self.old) (mux_of self.new)) }
+            TakesIn (terms_of self.old) (route_of client.old) (held ++ piece.now) client.new
+            result (board_in self.old) (board_in self.new)) }
         ensures closing { IsErrOf result ClientError.Closing ↔ (is_closing client.old ≡ true) }
         ensures no_client { IsErrOf result ClientError.NoClient ↔ ((is_closing client.old ≡ false) ×
-            (waiting_for (mux_of self.old) (client_id client.old) ≡ None)) }
+            (waiting_for (board_in self.old) (client_id client.old) ≡ None)) }
         // If there is room for more, no bytes wait for room.
         ensures all { OnOk result (is_leaving client.new ≡ false → HasRoomFor self.new client.new →
             waits_for_room client.new ≡ []) }
@@ -295,11 +311,11 @@ impl Proxy {
             LeavesRightly (terms_of self.old) client.old →
             LeavesRightly (terms_of self.old) client.new) }
         ensures stays { OnOk result (is_leaving client.old ≡ true →
-            mux_of self.new ≡ mux_of self.old) }
+            board_in self.new ≡ board_in self.old) }
         ensures admitted { is_leaving client.old ≡ false → is_leaving client.new ≡ true →
             admits_own self.old ≡ true }
-        ensures same_client { client_id client.new ≡ client_id client.old }
-        ensures same_clients { KeepsClients (mux_of self.old) (mux_of self.new) }
+        ensures same_client { route_of client.new ≡ route_of client.old }
+        ensures same_clients { KeepsOpen (board_in self.old) (board_in self.new) }
         ensures same_terms { terms_of self.new ≡ terms_of self.old }
         ensures same_replied { replied_to self.new ≡ replied_to self.old }
     {
@@ -308,7 +324,7 @@ impl Proxy {
             &self.settings,
             &mut self.intake,
             &mut self.counts,
-            &mut self.mux,
+            &mut self.board,
             client,
             piece,
         )
@@ -316,17 +332,17 @@ impl Proxy {
 
     /// Returns the number of bytes that wait for the server.
     pub fn unsent(&self) -> usize
-        ensures { result ≡ length (unsent (mux_of self.now)) }
+        ensures { result ≡ length (unsent_on (board_in self.now) (line_of self.now)) }
     {
-        self.mux.to_server().len()
+        self.board.to_server(self.line).len()
     }
 
     /// Returns the number of bytes that wait to be written to this client, or 0 if it is not open.
     pub fn unread(&self, client: &Client) -> usize
         ensures { result ≡ length (unwrap_or
-            (waiting_for (mux_of self.now) (client_id client.now)) []) }
+            (waiting_for (board_in self.now) (client_id client.now)) []) }
     {
-        match self.mux.to_client(client.id) {
+        match self.board.to_client(client.route.client) {
             Some(text) => text.len(),
             None => 0,
         }
@@ -334,26 +350,26 @@ impl Proxy {
 
     /// Returns the number of commands that wait for replies.
     pub fn waiting(&self) -> usize
-        ensures { result ≡ length (waiting_clients (mux_of self.now)) }
+        ensures { result ≡ length (waiting_on (board_in self.now) (line_of self.now)) }
     {
-        self.mux.waiting()
+        self.board.waiting(self.line)
     }
 
     /// Returns the client of the first command that waits for a reply.
     pub fn next_client(&self) -> Option<ClientId>
-        ensures { result ≡ slice_get (waiting_clients (mux_of self.now)) 0 }
+        ensures { result ≡ slice_get (clients_on (board_in self.now) (line_of self.now)) 0 }
     {
-        self.mux.next_client()
+        self.board.next_client(self.line)
     }
 
     /// Returns whether a client is closing, no command of it waits, and all its replies were
     /// written. Close it then.
     pub fn is_done(&self, client: &Client) -> bool
-        ensures { IsTrue result ↔ IsDone (mux_of self.now) client.now }
+        ensures { IsTrue result ↔ IsDone (board_in self.now) client.now }
     {
         client.is_closing
-            && has_no_bytes(&self.mux, client.id)
-            && has_no_command(&self.mux, client.id)
+            && has_no_bytes(&self.board, client.route.client)
+            && has_no_command(&self.board, client.route.client)
     }
 
     /// Sets whether a client may get a connection of its own. If not, the proxy replies with an
@@ -373,12 +389,12 @@ impl Proxy {
 
     /// Returns what was counted.
     pub fn numbers(&self) -> Numbers {
-        self.counts.numbers(&self.mux)
+        self.counts.numbers(&self.board, self.line)
     }
 
     /// Returns what was counted here and in the other proxies of the program.
     pub fn all_numbers(&self) -> Numbers {
-        self.counts.all(&self.mux)
+        self.counts.all(&self.board, self.line)
     }
 
     /// Sets the numbers of the other proxies of the program, which `INFO proxy` adds, and the times that it
@@ -432,7 +448,7 @@ impl Proxy {
         ensures nothing { Holds (terms_of self.new) client.new [] }
         ensures closing { is_closing client.new ≡ true }
         ensures stays { is_leaving client.new ≡ false }
-        ensures same_client { client_id client.new ≡ client_id client.old }
+        ensures same_client { route_of client.new ≡ route_of client.old }
         ensures same_state { self.new ≡ self.old }
     {
         shut(self.alloc, client);
@@ -445,27 +461,29 @@ impl Proxy {
     /// A [`ServerError`] if the bytes after the replies that were given are its cause, or if an allocation
     /// fails. Close the connection, and call [`Proxy::lose`].
     pub fn from_server(&mut self, piece: &[u8]) -> Result<(), ServerError>
-        ensures taken { WhereBegunBy self.old (λ front. WherePassed (mux_of self.old) (λ p.
-            TakesReplies (reply_rules_of self.old) (front ++ piece.now) (server_begun self.new)
-            result p (mux_of self.new))) }
+        ensures taken { WhereBegunBy self.old (λ front. WhereRun (board_in self.old) (λ h.
+            TakesReplies (reply_rules_of self.old) (line_of self.old) (front ++ piece.now)
+            (server_begun self.new) result h (board_in self.new))) }
         // The replies to probes are the expected ones. At the first that is not, nothing more is given.
-        ensures step { WhereBegunBy self.old (λ front. WherePassed (mux_of self.old) (λ p.
-            KeepsStep (prober_of self.old) (expected_of self.old) result (mux_of self.old) p
-            (mux_of self.new))) }
+        ensures step { WhereBegunBy self.old (λ front. WhereRun (board_in self.old) (λ h.
+            KeepsStep (line_of self.old) (prober_of self.old) (expected_of self.old) result
+            (board_in self.old) h (board_in self.new))) }
         // Each client whose bytes are other than before is returned by `next_replied`.
-        ensures told { Tells (replied_to self.old) (replied_to self.new) (mux_of self.old)
-            (mux_of self.new) }
+        ensures told { Tells (line_of self.old) (replied_to self.old) (replied_to self.new)
+            (board_in self.old) (board_in self.new) }
         ensures same_prober { prober_of self.new ≡ prober_of self.old }
         ensures same_expected { expected_of self.new ≡ expected_of self.old }
-        ensures same_clients { KeepsClients (mux_of self.old) (mux_of self.new) }
+        ensures same_clients { KeepsOpen (board_in self.old) (board_in self.new) }
         ensures same_terms { terms_of self.new ≡ terms_of self.old }
         ensures same_reply_rules { reply_rules_of self.new ≡ reply_rules_of self.old }
+        ensures same_line { line_of self.new ≡ line_of self.old }
         ensures forgotten { OnErr result (HasBegunBy self.new []) }
     {
         let taken = take_replies(
             &mut self.replies,
             &mut self.begun,
-            &mut self.mux,
+            &mut self.board,
+            self.line,
             &mut self.replied,
             &self.prober,
             &mut self.counts.errors,
@@ -489,15 +507,14 @@ impl Proxy {
     /// `AllocError` if an allocation fails. The first of these commands may have their replies, and the
     /// others still wait. Close the client of the first command, and try again.
     pub fn lose(&mut self) -> Result<(), AllocError>
-        ensures passed { OnOk result (WherePassed (mux_of self.old) (λ p.
-            HasPassed (mux_of self.new)
-            (with_loss (begun_count (mux_of self.old)) lost_text p))) }
-        ensures some_answered { OnErr result (HasAnsweredSome lost_text (mux_of self.old)
-            (mux_of self.new)) }
-        ensures told { Tells (replied_to self.old) (replied_to self.new) (mux_of self.old)
-            (mux_of self.new) }
+        ensures run { OnOk result (Loses (line_of self.old) lost_text (board_in self.old)
+            (board_in self.new)) }
+        ensures some_answered { OnErr result (HasAnsweredSome (line_of self.old) lost_text
+            (board_in self.old) (board_in self.new)) }
+        ensures told { Tells (line_of self.old) (replied_to self.old) (replied_to self.new)
+            (board_in self.old) (board_in self.new) }
         ensures begun { HasBegunBy self.new [] }
-        ensures same_clients { KeepsClients (mux_of self.old) (mux_of self.new) }
+        ensures same_clients { KeepsOpen (board_in self.old) (board_in self.new) }
         ensures same_terms { terms_of self.new ≡ terms_of self.old }
     {
         self.lose_by(LOST)
@@ -510,15 +527,14 @@ impl Proxy {
     ///
     /// Those of [`Proxy::lose`].
     pub fn lose_out_of_step(&mut self) -> Result<(), AllocError>
-        ensures passed { OnOk result (WherePassed (mux_of self.old) (λ p.
-            HasPassed (mux_of self.new)
-            (with_loss (begun_count (mux_of self.old)) out_of_step_text p))) }
-        ensures some_answered { OnErr result (HasAnsweredSome out_of_step_text (mux_of self.old)
-            (mux_of self.new)) }
-        ensures told { Tells (replied_to self.old) (replied_to self.new) (mux_of self.old)
-            (mux_of self.new) }
+        ensures run { OnOk result (Loses (line_of self.old) out_of_step_text (board_in self.old)
+            (board_in self.new)) }
+        ensures some_answered { OnErr result (HasAnsweredSome (line_of self.old) out_of_step_text
+            (board_in self.old) (board_in self.new)) }
+        ensures told { Tells (line_of self.old) (replied_to self.old) (replied_to self.new)
+            (board_in self.old) (board_in self.new) }
         ensures begun { HasBegunBy self.new [] }
-        ensures same_clients { KeepsClients (mux_of self.old) (mux_of self.new) }
+        ensures same_clients { KeepsOpen (board_in self.old) (board_in self.new) }
         ensures same_terms { terms_of self.new ≡ terms_of self.old }
     {
         self.lose_by(OUT_OF_STEP)
@@ -526,20 +542,20 @@ impl Proxy {
 
     /// Like `lose`, with this text as the reply.
     fn lose_by(&mut self, text: &[u8]) -> Result<(), AllocError>
-        ensures passed { OnOk result (WherePassed (mux_of self.old) (λ p.
-            HasPassed (mux_of self.new)
-            (with_loss (begun_count (mux_of self.old)) text.now p))) }
-        ensures some_answered { OnErr result (HasAnsweredSome text.now (mux_of self.old)
-            (mux_of self.new)) }
-        ensures told { Tells (replied_to self.old) (replied_to self.new) (mux_of self.old)
-            (mux_of self.new) }
+        ensures run { OnOk result (Loses (line_of self.old) text.now (board_in self.old)
+            (board_in self.new)) }
+        ensures some_answered { OnErr result (HasAnsweredSome (line_of self.old) text.now
+            (board_in self.old) (board_in self.new)) }
+        ensures told { Tells (line_of self.old) (replied_to self.old) (replied_to self.new)
+            (board_in self.old) (board_in self.new) }
         ensures begun { HasBegunBy self.new [] }
-        ensures same_clients { KeepsClients (mux_of self.old) (mux_of self.new) }
+        ensures same_clients { KeepsOpen (board_in self.old) (board_in self.new) }
         ensures same_terms { terms_of self.new ≡ terms_of self.old }
     {
         forget(&mut self.begun);
-        note_begun(&mut self.replied, &self.mux)?;
-        self.mux.lose(text)
+        let begun = self.board.begun(self.line);
+        note_first(&mut self.replied, &self.board, self.line, begun)?;
+        self.board.lose(self.line, text)
     }
 
     /// Replies with this text to each command that waits, because no connection to the server can
@@ -547,23 +563,23 @@ impl Proxy {
     ///
     /// # Errors
     ///
-    /// `AllocError` if an allocation fails. The first commands may have their replies, and the others count
-    /// as begun. Close the client of the first command, and call [`Proxy::lose`].
+    /// `AllocError` if an allocation fails. The first of these commands may have their replies, and the
+    /// others still wait. Close the client of the first command, and try again.
     pub fn fail(&mut self, text: &[u8]) -> Result<(), AllocError>
-        // The commands of which a byte would be sent if all bytes were sent.
-        ensures passed { OnOk result (WherePassed (mux_of self.old) (λ p.
-            Fails text.now (mux_of self.old) (mux_of self.new) p)) }
-        ensures some_answered { OnErr result (WherePassed (mux_of self.old) (λ p.
-            FailsSome text.now (mux_of self.old) (mux_of self.new) p)) }
-        ensures told { Tells (replied_to self.old) (replied_to self.new) (mux_of self.old)
-            (mux_of self.new) }
+        ensures run { OnOk result (Runs (Fail (line_of self.old) text.now) (board_in self.old)
+            (board_in self.new)) }
+        ensures some_answered { OnErr result (FailsSome (line_of self.old) text.now
+            (board_in self.old) (board_in self.new)) }
+        ensures told { Tells (line_of self.old) (replied_to self.old) (replied_to self.new)
+            (board_in self.old) (board_in self.new) }
         ensures begun { HasBegunBy self.new [] }
-        ensures same_clients { KeepsClients (mux_of self.old) (mux_of self.new) }
+        ensures same_clients { KeepsOpen (board_in self.old) (board_in self.new) }
         ensures same_terms { terms_of self.new ≡ terms_of self.old }
     {
-        let all = self.mux.to_server().len();
-        self.mux.sent(all);
-        self.lose_by(text)
+        forget(&mut self.begun);
+        let all = self.board.waiting(self.line);
+        note_first(&mut self.replied, &self.board, self.line, all)?;
+        self.board.fail(self.line, text)
     }
 
     /// Returns the next client that was replied to by [`Proxy::from_server`],
@@ -579,32 +595,35 @@ impl Proxy {
     /// Writes bytes that wait for a client, with at most one write.
     pub fn give<W: Sink>(&mut self, client: &Client, writer: &mut W) -> WriteOutcome
         ensures gives { GivesSome (W.written writer.old) (W.written writer.new)
-            (client_id client.now) (mux_of self.old) (mux_of self.new) }
+            (client_id client.now) (board_in self.old) (board_in self.new) }
         ensures all { result ≡ WriteOutcome.All →
-            HasNothingFor (mux_of self.new) (client_id client.now) }
-        ensures once { HasNothingFor (mux_of self.old) (client_id client.now) ⊎
+            HasNothingFor (board_in self.new) (client_id client.now) }
+        ensures idle { HasNothingFor (board_in self.old) (client_id client.now) →
+            result ≡ WriteOutcome.All }
+        ensures once { HasNothingFor (board_in self.old) (client_id client.now) ⊎
             (W.calls writer.new ≡ count_after 1 (W.calls writer.old)) }
-        ensures same_clients { KeepsClients (mux_of self.old) (mux_of self.new) }
+        ensures same_clients { KeepsOpen (board_in self.old) (board_in self.new) }
         ensures same_terms { terms_of self.new ≡ terms_of self.old }
         ensures same_replied { replied_to self.new ≡ replied_to self.old }
     {
-        give(&mut self.mux, client.id, writer)
+        give(&mut self.board, client.route.client, writer)
     }
 
     /// Writes bytes that wait for the server, with at most one write.
     pub fn send<W: Sink>(&mut self, writer: &mut W) -> WriteOutcome
-        ensures sends { SendsSome (W.written writer.old) (W.written writer.new)
-            (mux_of self.old) (mux_of self.new) }
-        ensures same_bytes { KeepsBytes (mux_of self.old) (mux_of self.new) }
-        ensures all { result ≡ WriteOutcome.All → unsent (mux_of self.new) ≡ [] }
-        ensures once { (unsent (mux_of self.old) ≡ []) ⊎
+        ensures sends { SendsSome (line_of self.old) (W.written writer.old)
+            (W.written writer.new) (board_in self.old) (board_in self.new) }
+        ensures same_bytes { KeepsBytes (board_in self.old) (board_in self.new) }
+        ensures all { result ≡ WriteOutcome.All →
+            unsent_on (board_in self.new) (line_of self.new) ≡ [] }
+        ensures once { (unsent_on (board_in self.old) (line_of self.old) ≡ []) ⊎
             (W.calls writer.new ≡ count_after 1 (W.calls writer.old)) }
-        ensures same_clients { KeepsClients (mux_of self.old) (mux_of self.new) }
+        ensures same_clients { KeepsOpen (board_in self.old) (board_in self.new) }
         ensures same_terms { terms_of self.new ≡ terms_of self.old }
         ensures same_replied { replied_to self.new ≡ replied_to self.old }
         ensures same_begun { server_begun self.new ≡ server_begun self.old }
     {
-        send(&mut self.mux, writer)
+        send(&mut self.board, self.line, writer)
     }
 }
 

@@ -1,9 +1,10 @@
 //! The settings of a proxy.
 
-ghost use Rattle.std.specs.Prelude.{◌≡◌, ◌↔◌, IsTrue};
+ghost use Rattle.std.specs.Prelude.{◌≡◌, ◌↔◌, false, true, IsTrue};
 ghost use Rattle.resp_proxy.specs.Room.{HasRoom};
 
-use resp_mux::{ClientId, Mux};
+use crate::route::Route;
+use resp_board::Board;
 use resp_value::limits::Limits;
 use resp_value::version::Version;
 
@@ -37,6 +38,9 @@ impl Settings {
         ensures waiting { result.waiting ≡ 1024 }
         ensures held { result.held ≡ 1048576 }
         ensures unsent { result.unsent ≡ 1048576 }
+        ensures lines { result.lines ≡ true }
+        ensures no_ping { result.local_ping ≡ false }
+        ensures answers_settings { result.answers_settings ≡ true }
         ensures version { result.version ≡ Version.Two }
     {
         Settings {
@@ -52,15 +56,17 @@ impl Settings {
     }
 
     /// Returns whether a command of this client may be taken now.
-    pub(crate) fn has_room(&self, mux: &Mux, who: ClientId) -> bool
-        ensures { IsTrue result ↔ HasRoom self.now mux.now who }
+    pub(crate) fn has_room(&self, board: &Board, route: Route) -> bool
+        ensures { IsTrue result ↔ HasRoom self.now board.now route }
     {
-        let Some(count) = mux.waiting_of(who) else {
+        let Some(count) = board.waiting_of(route.client) else {
             return false;
         };
-        let Some(text) = mux.to_client(who) else {
+        let Some(text) = board.to_client(route.client) else {
             return false;
         };
-        count < self.waiting && text.len() <= self.held && mux.to_server().len() <= self.unsent
+        count < self.waiting as u64
+            && text.len() <= self.held
+            && board.to_server(route.line).len() <= self.unsent
     }
 }

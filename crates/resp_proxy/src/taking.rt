@@ -2,8 +2,8 @@
 
 ghost use Rattle.std.specs.Prelude.{◌≡◌, ◌↔◌, ◌++◌, ◌≤◌, List, ℕ, None, [], drop, false, length, option_map, true, IfErr, IsErrOf, IsSome, OnOk};
 ghost use Rattle.resp_frames.specs.Framing.{IsReady};
-ghost use Rattle.resp_mux.specs.Multiplexing.{KeepsClients, waiting_for};
-ghost use Rattle.resp_proxy.specs.Clients.{Holds, client_id, is_closing, is_leaving, waits_for_room};
+ghost use Rattle.resp_board.specs.Runs.{KeepsOpen, waiting_for};
+ghost use Rattle.resp_proxy.specs.Clients.{Holds, client_id, is_closing, is_leaving, route_of, waits_for_room};
 ghost use Rattle.resp_proxy.specs.Leaving.{LeavesRightly, PutsBack};
 ghost use Rattle.resp_proxy.specs.Refusing.{IsOfBytes};
 ghost use Rattle.resp_proxy.specs.Room.{HasRoom};
@@ -18,10 +18,11 @@ use crate::commands::take_commands;
 use crate::counts::ProxyCounts;
 use crate::error::ClientError;
 use crate::intake::Intake;
+use crate::route::Route;
 use crate::settings::Settings;
 use bytes::BytesMut;
+use resp_board::Board;
 use resp_frames::Unfinished;
-use resp_mux::{ClientId, Mux};
 use std::alloc::{AllocError, Global};
 
 /// Takes the commands for which there is room from the bytes that a client holds and from a piece,
@@ -31,35 +32,35 @@ pub(crate) fn take_in(
     settings: &Settings,
     intake: &mut Intake,
     counts: &mut ProxyCounts,
-    mux: &mut Mux,
+    board: &mut Board,
     client: &mut Client,
     piece: &[u8],
 ) -> Result<(), ClientError>
     ensures taken { IsReady intake.old.frames → (held : List ℕ) →
         Holds (terms_of intake.old) client.old held →
-        TakesIn (terms_of intake.old) (client_id client.old) (held ++ piece.now) client.new
-        result mux.old mux.new }
+        TakesIn (terms_of intake.old) (route_of client.old) (held ++ piece.now) client.new
+        result board.old board.new }
     ensures closing { IsErrOf result ClientError.Closing ↔ (is_closing client.old ≡ true) }
     ensures no_client { IsErrOf result ClientError.NoClient ↔ ((is_closing client.old ≡ false) ×
-        (waiting_for mux.old (client_id client.old) ≡ None)) }
+        (waiting_for board.old (client_id client.old) ≡ None)) }
     ensures all { OnOk result (is_leaving client.new ≡ false →
-        HasRoom settings.now mux.new (client_id client.old) → waits_for_room client.new ≡ []) }
+        HasRoom settings.now board.new (route_of client.old) → waits_for_room client.new ≡ []) }
     ensures leaves { IsReady intake.old.frames → (held : List ℕ) →
         Holds (terms_of intake.old) client.old held →
         LeavesRightly (terms_of intake.old) client.old →
         LeavesRightly (terms_of intake.old) client.new }
-    ensures stays { OnOk result (is_leaving client.old ≡ true → mux.new ≡ mux.old) }
+    ensures stays { OnOk result (is_leaving client.old ≡ true → board.new ≡ board.old) }
     ensures admitted { is_leaving client.old ≡ false → is_leaving client.new ≡ true →
         intake.old.admits_own ≡ true }
-    ensures same_client { client_id client.new ≡ client_id client.old }
-    ensures same_clients { KeepsClients mux.old mux.new }
+    ensures same_client { route_of client.new ≡ route_of client.old }
+    ensures same_clients { KeepsOpen board.old board.new }
     ensures ready { IsReady intake.old.frames → IsReady intake.new.frames }
     ensures same_terms { terms_of intake.new ≡ terms_of intake.old }
 {
-    let taken = take_held(alloc, settings, intake, counts, mux, client, piece);
+    let taken = take_held(alloc, settings, intake, counts, board, client, piece);
     if let Err(error) = taken {
         shut(alloc, client);
-        say_last(alloc, mux, client.id, error);
+        say_last(alloc, board, client.route, error);
     }
     taken
 }
@@ -70,44 +71,44 @@ fn take_held(
     settings: &Settings,
     intake: &mut Intake,
     counts: &mut ProxyCounts,
-    mux: &mut Mux,
+    board: &mut Board,
     client: &mut Client,
     piece: &[u8],
 ) -> Result<(), ClientError>
     ensures taken { IsReady intake.old.frames → (held : List ℕ) →
         Holds (terms_of intake.old) client.old held →
-        TakesHeld (terms_of intake.old) (client_id client.old) (held ++ piece.now) client.new
-        result mux.old mux.new }
+        TakesHeld (terms_of intake.old) (route_of client.old) (held ++ piece.now) client.new
+        result board.old board.new }
     ensures closing { IsErrOf result ClientError.Closing ↔ (is_closing client.old ≡ true) }
     ensures no_client { IsErrOf result ClientError.NoClient ↔ ((is_closing client.old ≡ false) ×
-        (waiting_for mux.old (client_id client.old) ≡ None)) }
+        (waiting_for board.old (client_id client.old) ≡ None)) }
     ensures all { OnOk result (is_leaving client.new ≡ false →
-        HasRoom settings.now mux.new (client_id client.old) → waits_for_room client.new ≡ []) }
+        HasRoom settings.now board.new (route_of client.old) → waits_for_room client.new ≡ []) }
     ensures leaves { IsReady intake.old.frames → (held : List ℕ) →
         Holds (terms_of intake.old) client.old held →
         LeavesRightly (terms_of intake.old) client.old →
         OnOk result (LeavesRightly (terms_of intake.old) client.new) }
-    ensures stays { OnOk result (is_leaving client.old ≡ true → mux.new ≡ mux.old) }
+    ensures stays { OnOk result (is_leaving client.old ≡ true → board.new ≡ board.old) }
     ensures admitted { is_leaving client.old ≡ false → is_leaving client.new ≡ true →
         intake.old.admits_own ≡ true }
-    ensures same_client { client_id client.new ≡ client_id client.old }
-    ensures same_clients { KeepsClients mux.old mux.new }
+    ensures same_client { route_of client.new ≡ route_of client.old }
+    ensures same_clients { KeepsOpen board.old board.new }
     ensures ready { IsReady intake.old.frames → IsReady intake.new.frames }
     ensures same_terms { terms_of intake.new ≡ terms_of intake.old }
 {
     if client.is_closing {
         return Err(ClientError::Closing);
     }
-    if mux.to_client(client.id).is_none() {
+    if board.to_client(client.route.client).is_none() {
         return Err(ClientError::NoClient);
     }
     if client.is_leaving {
         return keep(client, piece);
     }
     if client.rest.is_empty() {
-        take_piece(alloc, settings, intake, counts, mux, client, piece)
+        take_piece(alloc, settings, intake, counts, board, client, piece)
     } else {
-        take_rest(alloc, settings, intake, counts, mux, client, piece)
+        take_rest(alloc, settings, intake, counts, board, client, piece)
     }
 }
 
@@ -117,25 +118,25 @@ fn take_piece(
     settings: &Settings,
     intake: &mut Intake,
     counts: &mut ProxyCounts,
-    mux: &mut Mux,
+    board: &mut Board,
     client: &mut Client,
     piece: &[u8],
 ) -> Result<(), ClientError>
     requires { client.old.rest.items ≡ [] }
     ensures taken { IsReady intake.old.frames → (held : List ℕ) →
         Holds (terms_of intake.old) client.old held →
-        TakesHeld (terms_of intake.old) (client_id client.old) (held ++ piece.now) client.new
-        result mux.old mux.new }
+        TakesHeld (terms_of intake.old) (route_of client.old) (held ++ piece.now) client.new
+        result board.old board.new }
     ensures open { IfErr result IsOfBytes }
     ensures all { OnOk result (is_leaving client.new ≡ false →
-        HasRoom settings.now mux.new (client_id client.old) → waits_for_room client.new ≡ []) }
+        HasRoom settings.now board.new (route_of client.old) → waits_for_room client.new ≡ []) }
     ensures leaves { IsReady intake.old.frames → (held : List ℕ) →
         Holds (terms_of intake.old) client.old held → is_leaving client.old ≡ false →
         OnOk result (LeavesRightly (terms_of intake.old) client.new) }
     ensures admitted { is_leaving client.old ≡ false → is_leaving client.new ≡ true →
         intake.old.admits_own ≡ true }
-    ensures same_client { client_id client.new ≡ client_id client.old }
-    ensures same_clients { KeepsClients mux.old mux.new }
+    ensures same_client { route_of client.new ≡ route_of client.old }
+    ensures same_clients { KeepsOpen board.old board.new }
     ensures ready { IsReady intake.old.frames → IsReady intake.new.frames }
     ensures same_terms { terms_of intake.new ≡ terms_of intake.old }
 {
@@ -146,8 +147,8 @@ fn take_piece(
         counts,
         &mut client.unfinished,
         &mut client.identity,
-        mux,
-        client.id,
+        board,
+        client.route,
         piece,
     );
     if let Err(error) = taken.end {
@@ -165,7 +166,7 @@ fn keep(client: &mut Client, bytes: &[u8]) -> Result<(), ClientError>
     ensures memory { IfErr result (λ error. error ≡ ClientError.OutOfMemory) }
     ensures same_leaving { is_leaving client.new ≡ is_leaving client.old }
     ensures same_unfinished { client.new.unfinished ≡ client.old.unfinished }
-    ensures same_client { client_id client.new ≡ client_id client.old }
+    ensures same_client { route_of client.new ≡ route_of client.old }
 {
     match client.rest.extend_from_slice(bytes) {
         Ok(()) => Ok(()),
@@ -179,24 +180,24 @@ fn take_rest(
     settings: &Settings,
     intake: &mut Intake,
     counts: &mut ProxyCounts,
-    mux: &mut Mux,
+    board: &mut Board,
     client: &mut Client,
     piece: &[u8],
 ) -> Result<(), ClientError>
     ensures taken { IsReady intake.old.frames → (held : List ℕ) →
         Holds (terms_of intake.old) client.old held →
-        TakesHeld (terms_of intake.old) (client_id client.old) (held ++ piece.now) client.new
-        result mux.old mux.new }
+        TakesHeld (terms_of intake.old) (route_of client.old) (held ++ piece.now) client.new
+        result board.old board.new }
     ensures open { IfErr result IsOfBytes }
     ensures all { OnOk result (is_leaving client.new ≡ false →
-        HasRoom settings.now mux.new (client_id client.old) → waits_for_room client.new ≡ []) }
+        HasRoom settings.now board.new (route_of client.old) → waits_for_room client.new ≡ []) }
     ensures leaves { IsReady intake.old.frames → (held : List ℕ) →
         Holds (terms_of intake.old) client.old held → is_leaving client.old ≡ false →
         OnOk result (LeavesRightly (terms_of intake.old) client.new) }
     ensures admitted { is_leaving client.old ≡ false → is_leaving client.new ≡ true →
         intake.old.admits_own ≡ true }
-    ensures same_client { client_id client.new ≡ client_id client.old }
-    ensures same_clients { KeepsClients mux.old mux.new }
+    ensures same_client { route_of client.new ≡ route_of client.old }
+    ensures same_clients { KeepsOpen board.old board.new }
     ensures ready { IsReady intake.old.frames → IsReady intake.new.frames }
     ensures same_terms { terms_of intake.new ≡ terms_of intake.old }
 {
@@ -210,8 +211,8 @@ fn take_rest(
         counts,
         &mut client.unfinished,
         &mut client.identity,
-        mux,
-        client.id,
+        board,
+        client.route,
         client.rest.as_slice(),
     );
     remove(alloc, client, taken.used);
@@ -226,7 +227,7 @@ fn put_back(alloc: Global, client: &mut Client, aside: Option<Vec<u8>>) -> Resul
     ensures put { OnOk result (PutsBack (option_map (λ text. text.items) aside) client.old client.new) }
     ensures memory { IfErr result (λ error. error ≡ ClientError.OutOfMemory) }
     ensures some { is_leaving client.old ≡ false → is_leaving client.new ≡ true → IsSome aside }
-    ensures same_client { client_id client.new ≡ client_id client.old }
+    ensures same_client { route_of client.new ≡ route_of client.old }
 {
     let Some(text) = aside else {
         return Ok(());
@@ -249,7 +250,7 @@ fn remove(alloc: Global, client: &mut Client, count: usize)
     ensures rest { client.new.rest.items ≡ drop count client.old.rest.items }
     ensures same_leaving { is_leaving client.new ≡ is_leaving client.old }
     ensures same_unfinished { client.new.unfinished ≡ client.old.unfinished }
-    ensures same_client { client_id client.new ≡ client_id client.old }
+    ensures same_client { route_of client.new ≡ route_of client.old }
 {
     if count == client.rest.len() {
         client.rest = BytesMut::new(alloc);
@@ -263,7 +264,7 @@ pub(crate) fn shut(alloc: Global, client: &mut Client)
     ensures nothing { (terms : Terms) → Holds terms client.new [] }
     ensures stays { is_leaving client.new ≡ false }
     ensures closing { is_closing client.new ≡ true }
-    ensures same_client { client_id client.new ≡ client_id client.old }
+    ensures same_client { route_of client.new ≡ route_of client.old }
 {
     client.unfinished = Unfinished::new(alloc);
     client.rest = BytesMut::new(alloc);
@@ -272,17 +273,17 @@ pub(crate) fn shut(alloc: Global, client: &mut Client)
 }
 
 /// Gives a client the last reply before it is closed, if the error has a reply and memory suffices.
-fn say_last(alloc: Global, mux: &mut Mux, who: ClientId, error: ClientError)
-    ensures said { SaysLast who mux.old mux.new }
-    ensures same_clients { KeepsClients mux.old mux.new }
+fn say_last(alloc: Global, board: &mut Board, route: Route, error: ClientError)
+    ensures said { SaysLast route board.old board.new }
+    ensures same_clients { KeepsOpen board.old board.new }
 {
     match error {
         ClientError::Quit => {
-            let _ = own(mux, who, b"+OK\r\n");
+            let _ = own(board, route.client, b"+OK\r\n");
         }
         ClientError::NoneLeft(name) => {
             if let Ok(text) = none_left(alloc, name) {
-                let _ = own(mux, who, &text);
+                let _ = own(board, route.client, &text);
             }
         }
         ClientError::Protocol(_)
@@ -290,7 +291,7 @@ fn say_last(alloc: Global, mux: &mut Mux, who: ClientId, error: ClientError)
         | ClientError::LongLine
         | ClientError::OverLimits => {
             if let Ok(text) = protocol_error(alloc, error) {
-                let _ = own(mux, who, &text);
+                let _ = own(board, route.client, &text);
             }
         }
         _ => {}

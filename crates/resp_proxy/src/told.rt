@@ -1,11 +1,11 @@
 //! The clients that were replied to.
 
-ghost use Rattle.std.specs.Prelude.{◌≡◌, ◌<◌, OnOk};
+ghost use Rattle.std.specs.Prelude.{◌≡◌, ◌<◌, take, OnOk};
 ghost use Rattle.std.specs.VecDeque.{deque_capacity, deque_len};
-ghost use Rattle.resp_mux.specs.Multiplexing.{begun_clients, waiting_clients};
+ghost use Rattle.resp_board.specs.Runs.{clients_on};
 ghost use Rattle.resp_proxy.specs.Telling.{Covers, Notes, NotesSome};
 
-use resp_mux::{ClientId, Mux};
+use resp_board::{Board, ClientId, LineId};
 use std::alloc::AllocError;
 use std::collections::VecDeque;
 
@@ -34,15 +34,21 @@ pub(crate) fn note(queued: &mut VecDeque<ClientId>, who: ClientId)
     queued.push_back_reserved(who);
 }
 
-/// Queues the clients of the waiting commands of which a byte was sent.
-pub(crate) fn note_begun(queued: &mut VecDeque<ClientId>, mux: &Mux) -> Result<(), AllocError>
-    ensures noted { NotesSome (waiting_clients mux.now) queued.old.items queued.new.items }
-    ensures all { OnOk result (Covers (begun_clients mux.now) queued.new.items) }
+/// Queues the clients of the first `count` commands that wait on a line, or of all if fewer wait.
+pub(crate) fn note_first(
+    queued: &mut VecDeque<ClientId>,
+    board: &Board,
+    line: LineId,
+    count: usize,
+) -> Result<(), AllocError>
+    ensures noted { NotesSome (clients_on board.now line.place) queued.old.items queued.new.items }
+    ensures all { OnOk result
+        (Covers (take count (clients_on board.now line.place)) queued.new.items) }
 {
     let mut before = 0;
-    while before < mux.begun() {
+    while before < count {
         queued.reserve(1)?;
-        let Some(who) = mux.waiting_client(before) else {
+        let Some(who) = board.waiting_client(line, before) else {
             return Ok(());
         };
         note(queued, who);

@@ -1,13 +1,13 @@
 //! Visits of connections.
 
 ghost use Rattle.std.specs.Prelude.{◌≡◌, ◌↔◌, ◌<◌, [], false, length, true, IfErr, IfSome, OnOk};
-ghost use Rattle.resp_mux.specs.Multiplexing.{KeepsClients, WherePassed, unsent};
-ghost use Rattle.resp_proxy.specs.Clients.{client_id, is_closing};
+ghost use Rattle.resp_board.specs.Runs.{KeepsOpen, KeepsOthers, WhereRun, unsent_on};
+ghost use Rattle.resp_proxy.specs.Clients.{client_id, is_closing, route_of};
 ghost use Rattle.resp_proxy.specs.Leaving.{LeavesRightly};
-ghost use Rattle.resp_proxy.specs.Proxies.{HasRoomFor, WhereBegunBy, WhereHeld, expected_of, mux_of, prober_of, replied_to, terms_of, reply_rules_of, server_begun};
+ghost use Rattle.resp_proxy.specs.Proxies.{HasRoomFor, WhereBegunBy, WhereHeld, board_in, expected_of, line_of, prober_of, replied_to, terms_of, reply_rules_of, server_begun};
 ghost use Rattle.resp_proxy.specs.Probing.{KeepsStep};
 ghost use Rattle.resp_proxy.specs.Telling.{Tells};
-ghost use Rattle.resp_proxy.specs.Visiting.{HasNothingFor, OthersKeep, ReadsClient, ReadsServer, VisitsClient, VisitsServer};
+ghost use Rattle.resp_proxy.specs.Visiting.{HasNothingFor, ReadsClient, ReadsServer, TriesRead, VisitsClient, VisitsServer};
 ghost use Rattle.resp_io.specs.Devices.{count_after};
 
 use crate::client::Client;
@@ -67,25 +67,31 @@ impl Proxy {
         requires { 0 < length buffer.old }
         // The bytes read came from this client, and the bytes written are those that it was owed.
         ensures visited { WhereHeld self.old client.old (λ held. VisitsClient (terms_of self.old)
-            (client_id client.old) (R.remaining reader.old) (R.remaining reader.new)
+            (route_of client.old) (R.remaining reader.old) (R.remaining reader.new)
             (W.written writer.old) (W.written writer.new) held client.new result.read
-            (mux_of self.old) (mux_of self.new)) }
+            (board_in self.old) (board_in self.new)) }
         ensures closing { (result.read ≡ Read.Closing ClientError.Closing) ↔
             (is_closing client.old ≡ true) }
         ensures full { (result.read ≡ Read.Full) ↔ ((is_closing client.old ≡ false) ×
             (HasRoomFor self.old client.old → ⊥)) }
         // Each other client has the bytes that it had.
-        ensures others { WhereHeld self.old client.old (λ held. WherePassed (mux_of self.old) (λ p.
-            OthersKeep (client_id client.old) (mux_of self.old) (mux_of self.new))) }
+        ensures others { WhereHeld self.old client.old (λ held. WhereRun (board_in self.old) (λ h.
+            KeepsOthers (client_id client.old) (board_in self.old) (board_in self.new))) }
         ensures nothing_read { (HasRoomFor self.old client.old → ⊥) → reader.new ≡ reader.old }
+        // One read if there is room, and one write if bytes wait.
+        ensures tries { TriesRead client.old (HasRoomFor self.old client.old) result.read
+            (R.remaining reader.old) (R.calls reader.old) (R.calls reader.new)
+            (R.failures reader.old) (R.failures reader.new) }
+        ensures writes { (HasNothingFor (board_in self.new) (client_id client.old) → ⊥) →
+            W.calls writer.new ≡ count_after 1 (W.calls writer.old) }
         // The client is leaving only if its next command needs a connection of its own.
         ensures leaves { WhereHeld self.old client.old (λ held.
             LeavesRightly (terms_of self.old) client.old →
             LeavesRightly (terms_of self.old) client.new) }
         ensures all { result.written ≡ WriteOutcome.All →
-            HasNothingFor (mux_of self.new) (client_id client.old) }
-        ensures same_client { client_id client.new ≡ client_id client.old }
-        ensures same_clients { KeepsClients (mux_of self.old) (mux_of self.new) }
+            HasNothingFor (board_in self.new) (client_id client.old) }
+        ensures same_client { route_of client.new ≡ route_of client.old }
+        ensures same_clients { KeepsOpen (board_in self.old) (board_in self.new) }
         ensures same_terms { terms_of self.new ≡ terms_of self.old }
         ensures same_replied { replied_to self.new ≡ replied_to self.old }
     {
@@ -103,19 +109,22 @@ impl Proxy {
     ) -> Read
         requires { 0 < length buffer.old }
         ensures reads { WhereHeld self.old client.old (λ held. ReadsClient (terms_of self.old)
-            (client_id client.old) (R.remaining reader.old) (R.remaining reader.new) held client.new
-            result (mux_of self.old) (mux_of self.new)) }
+            (route_of client.old) (R.remaining reader.old) (R.remaining reader.new) held client.new
+            result (board_in self.old) (board_in self.new)) }
         ensures closing { (result ≡ Read.Closing ClientError.Closing) ↔
             (is_closing client.old ≡ true) }
         ensures full { (result ≡ Read.Full) ↔ ((is_closing client.old ≡ false) ×
             (HasRoomFor self.old client.old → ⊥)) }
         ensures nothing_read { (HasRoomFor self.old client.old → ⊥) → reader.new ≡ reader.old }
+        ensures tries { TriesRead client.old (HasRoomFor self.old client.old) result
+            (R.remaining reader.old) (R.calls reader.old) (R.calls reader.new)
+            (R.failures reader.old) (R.failures reader.new) }
         // The client is leaving only if its next command needs a connection of its own.
         ensures leaves { WhereHeld self.old client.old (λ held.
             LeavesRightly (terms_of self.old) client.old →
             LeavesRightly (terms_of self.old) client.new) }
-        ensures same_client { client_id client.new ≡ client_id client.old }
-        ensures same_clients { KeepsClients (mux_of self.old) (mux_of self.new) }
+        ensures same_client { route_of client.new ≡ route_of client.old }
+        ensures same_clients { KeepsOpen (board_in self.old) (board_in self.new) }
         ensures same_terms { terms_of self.new ≡ terms_of self.old }
         ensures same_replied { replied_to self.new ≡ replied_to self.old }
     {
@@ -149,20 +158,21 @@ impl Proxy {
         requires { 0 < length buffer.old }
         // The bytes read came from the server, and the bytes written waited for it.
         ensures visited { WhereBegunBy self.old (λ front. VisitsServer (reply_rules_of self.old)
-            (R.remaining reader.old) (R.remaining reader.new) (W.written writer.old)
+            (line_of self.old) (R.remaining reader.old) (R.remaining reader.new) (W.written writer.old)
             (W.written writer.new) front (server_begun self.new) result.read result.end
-            (mux_of self.old) (mux_of self.new)) }
+            (board_in self.old) (board_in self.new)) }
         // The replies to probes are the expected ones. At the first that is not, nothing more is given.
         ensures step { IfSome result.read (λ count. WhereBegunBy self.old (λ front.
-            WherePassed (mux_of self.old) (λ p. KeepsStep (prober_of self.old)
-            (expected_of self.old) result.end (mux_of self.old) p (mux_of self.new)))) }
+            WhereRun (board_in self.old) (λ h. KeepsStep (line_of self.old)
+            (prober_of self.old) (expected_of self.old) result.end (board_in self.old) h
+            (board_in self.new)))) }
         // Each client whose bytes are other than before is returned by `next_replied`.
-        ensures told { Tells (replied_to self.old) (replied_to self.new) (mux_of self.old)
-            (mux_of self.new) }
+        ensures told { Tells (line_of self.old) (replied_to self.old) (replied_to self.new)
+            (board_in self.old) (board_in self.new) }
         ensures once { R.calls reader.new ≡ count_after 1 (R.calls reader.old) }
         ensures all { result.written ≡ WriteOutcome.All →
-            unsent (mux_of self.new) ≡ [] }
-        ensures same_clients { KeepsClients (mux_of self.old) (mux_of self.new) }
+            unsent_on (board_in self.new) (line_of self.new) ≡ [] }
+        ensures same_clients { KeepsOpen (board_in self.old) (board_in self.new) }
         ensures same_terms { terms_of self.new ≡ terms_of self.old }
     {
         let (read, end) = self.read_server(reader, buffer);
@@ -182,17 +192,19 @@ impl Proxy {
     ) -> (Option<usize>, Result<(), ServerError>)
         requires { 0 < length buffer.old }
         ensures reads { WhereBegunBy self.old (λ front. ReadsServer (reply_rules_of self.old)
-            (R.remaining reader.old) (R.remaining reader.new) front (server_begun self.new)
+            (line_of self.old) (R.remaining reader.old) (R.remaining reader.new) front (server_begun self.new)
             result.0 result.1
-            (mux_of self.old) (mux_of self.new)) }
+            (board_in self.old) (board_in self.new)) }
         ensures step { IfSome result.0 (λ count. WhereBegunBy self.old (λ front.
-            WherePassed (mux_of self.old) (λ p. KeepsStep (prober_of self.old)
-            (expected_of self.old) result.1 (mux_of self.old) p (mux_of self.new)))) }
-        ensures told { Tells (replied_to self.old) (replied_to self.new) (mux_of self.old)
-            (mux_of self.new) }
+            WhereRun (board_in self.old) (λ h. KeepsStep (line_of self.old)
+            (prober_of self.old) (expected_of self.old) result.1 (board_in self.old) h
+            (board_in self.new)))) }
+        ensures told { Tells (line_of self.old) (replied_to self.old) (replied_to self.new)
+            (board_in self.old) (board_in self.new) }
         ensures once { R.calls reader.new ≡ count_after 1 (R.calls reader.old) }
-        ensures same_clients { KeepsClients (mux_of self.old) (mux_of self.new) }
+        ensures same_clients { KeepsOpen (board_in self.old) (board_in self.new) }
         ensures same_terms { terms_of self.new ≡ terms_of self.old }
+        ensures same_line { line_of self.new ≡ line_of self.old }
     {
         match reader.read(buffer) {
             Ok(count) => (Some(count), self.from_server(&buffer[..count])),

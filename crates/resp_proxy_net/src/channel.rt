@@ -5,7 +5,7 @@ use crate::proxying::ProxySettings;
 use crate::server_link::{Loss, ServerLink};
 use crate::stalled::Stalled;
 use mio::Registry;
-use resp_mux::ClientId;
+use resp_board::ClientId;
 use resp_net::cause::cause_of;
 use resp_net::stream::Stream;
 use resp_proxy::{Client, Counted, Departed, Numbers, Proxy, ServerError, Setting, Times};
@@ -489,8 +489,6 @@ impl Channel {
         self.proxy.settle_probes();
         self.count_failed(before);
         if failed.is_err() {
-            // The commands that still wait count as begun now.
-            self.is_losing = true;
             self.condemn();
         }
     }

@@ -8,8 +8,6 @@ use crate::pulse::Pulse;
 use memchr::memrchr;
 use mio::{Interest, Registry, Token};
 use resp_io::device::Device;
-use resp_join::ReplyError;
-use resp_mux::AnswerError;
 use resp_net::backend::{Attempt, Backend};
 use resp_net::non_blocking::{Input, Output, is_open};
 use resp_net::register::register;
@@ -697,7 +695,7 @@ fn exchange(
 
 /// Returns whether the server sent a reply that no command waits for.
 fn is_unasked(error: ServerError) -> bool {
-    error == ServerError::Reply(ReplyError::Answer(AnswerError::Unasked))
+    error == ServerError::Unasked
 }
 
 /// Keeps the last line of some bytes of the server, if there is memory for it. Otherwise nothing is kept.

@@ -18,7 +18,8 @@ fn three_digits(alloc: Global, thousandths: u64) -> Result<String, AllocError> {
     format!(in alloc; "{whole}")
 }
 
-/// Returns a number of microseconds with a unit, such as `82 us`, `1.23 ms` and `12.3 s`.
+/// Returns a number of microseconds with a unit, such as `82 us`, `1.23 ms` and `12.3 s`. From 100,000
+/// seconds on, these are hours and days. It has at most 7 bytes up to 99,999 days.
 pub(crate) fn delay_text(alloc: Global, micros: u64) -> Result<String, AllocError> {
     if micros < 1_000 {
         return format!(in alloc; "{micros} us");
@@ -27,8 +28,18 @@ pub(crate) fn delay_text(alloc: Global, micros: u64) -> Result<String, AllocErro
         let number = three_digits(alloc, micros)?;
         return format!(in alloc; "{number} ms");
     }
-    let number = three_digits(alloc, micros / 1_000)?;
-    format!(in alloc; "{number} s")
+    let millis = micros / 1_000;
+    if millis < 99_999_500 {
+        let number = three_digits(alloc, millis)?;
+        return format!(in alloc; "{number} s");
+    }
+    let hours = millis / 3_600;
+    if hours < 99_999_500 {
+        let number = three_digits(alloc, hours)?;
+        return format!(in alloc; "{number} h");
+    }
+    let number = three_digits(alloc, hours / 24)?;
+    format!(in alloc; "{number} d")
 }
 
 /// Returns a number of bytes with a unit as in the options, such as `82`, `1.23K` and `12.3M`.

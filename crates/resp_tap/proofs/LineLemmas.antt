@@ -17,7 +17,6 @@ use Rattle.resp_tap.specs.declared.kind.CommandKind.{CommandKind}
 use Rattle.resp_tap.specs.declared.kind.CommandKind.TheVariants.{Plain, Hello, Reset, Silent, Subscribing, Unpairing}
 use Rattle.resp_tap.specs.declared.line.Due.{Due}
 use Rattle.resp_tap.specs.declared.notice.Notice.{Notice}
-use Rattle.resp_tap.specs.declared.notice.Notice.TheVariants as notice
 
 -- the same line, with more commands that wait
 abbrev pub longer : LineState → List Due → Bool → LineState

@@ -44,7 +44,7 @@ pub kept_whole : (room : ℕ) (held text : List ℕ) (failed : Bool) → Begun h
 kept_whole room held text failed started (inl fine) few = let same = ap length (started.all fine) in omega (arith, same, few)
 kept_whole room held text failed started (inr more) few = absurd (omega (arith, more, few))
 
-pub kept_part : (room : ℕ) (held text : List ℕ) (failed : Bool) → Begun held text failed → room < length held → room ≤ length text
+pub kept_part : (room : ℕ) (held text : List ℕ) (failed : Bool) → Begun held text failed → room < length held → room < length text
 kept_part room held text failed started more =
     let same = ap length started.whole ∙ length-append held started.beyond in
     omega (arith, same, more)

@@ -2,7 +2,7 @@
 use Rattle.std.specs.Prelude.{◌≡◌, ℕ, ◌-◌, Bool, List, [], map, take, nat_lt, Option, None, Some}
 use Rattle.std.specs.Char.{to_ascii_uppercase}
 use Rattle.resp_tap.specs.Filters.{keeps_all}
-use Rattle.resp_tap.specs.Keeping.{IsAdded, IsChosenBy, KeptBy}
+use Rattle.resp_tap.specs.Keeping.{IsChosenBy, KeptBy, new_words}
 use Rattle.resp_tap.specs.Keyed.{name_in}
 use Rattle.resp_tap.specs.declared.called.Called.{Called}
 use Rattle.resp_tap.specs.declared.filter.Filter.{Filter}
@@ -38,4 +38,4 @@ IsCalled is_chosen words called = (called.name.items ≡ command_name words) × 
 -- and the items of commands that wait no more are dropped.
 abbrev pub CalledAfter : Bool → Seen → ℕ → ℕ → List Called → List Called → Type 0
 CalledAfter is_chosen what before after old new =
-    KeptBy (nat_lt before after) (λ words. IsAdded (IsCalled is_chosen words)) what (before - after) old new
+    KeptBy (IsCalled is_chosen) (new_words (nat_lt before after) what) (before - after) old new

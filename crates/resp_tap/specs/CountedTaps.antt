@@ -7,7 +7,7 @@ use Rattle.resp_tap.specs.Counting.{CountedTap, CountsSeen}
 use Rattle.resp_tap.specs.Filters.{keeps_client}
 use Rattle.resp_tap.specs.Connections.{SeesNext}
 use Rattle.resp_tap.specs.Texts.{levels_of, refused_text}
-use Rattle.resp_tap.specs.Times.{stamp_of}
+use Rattle.resp_tap.specs.Times.{stamp_of, waits_in}
 use Rattle.resp_tap.specs.Watches.{StepOn}
 use Rattle.resp_tap.specs.declared.filter.Filter.{Filter}
 use Rattle.resp_tap.specs.declared.moment.Moment.{Moment}
@@ -22,9 +22,9 @@ counted_text f printing now what = if keeps_client f printing.client
 
 -- The first result in a piece: it is reported as without counting, and that of a line too. It is counted.
 pub record SeesCounted (f : Filter) (client : ℕ) (side : Side) (now : Moment) (old new : CountedTap) (piece : List ℕ)
-    (used : ℕ) (what : Seen) (is_line : Bool) (rows rows' : List CommandRow) : Type 0 where
-  pub seen : SeesNext (Some now) side old.connection new.connection piece used what is_line
-  pub counts : CountsSeen f client side now old new used what rows rows'
+    (used : ℕ) (what : Seen) (is_line : Bool) (size : ℕ) (rows rows' : List CommandRow) : Type 0 where
+  pub seen : SeesNext (Some now) side old.connection new.connection piece used what is_line size
+  pub counts : CountsSeen f client now old new size what (waits_in old.connection.tap) (waits_in new.connection.tap) rows rows'
 
 -- an error is printed, as far as writes succeed
 abbrev pub PrintsCounted : Filter → Printing → Moment → Seen → Option (List ℕ) → Option (List ℕ) → ℕ → ℕ →
@@ -36,6 +36,6 @@ PrintsCounted f printing now what before after failures failures' printed =
 -- decides, and stays the same.
 abbrev pub WatchesCounted : Printing → Side → Moment → StepOn (CountedTap × List CommandRow)
 WatchesCounted printing side now (old, rows) (new, rows') piece watched what before after failures failures' =
-    (new.filter ≡ old.filter) × (is_line : Bool) ×
-    SeesCounted old.filter printing.client side now old new piece watched.used what is_line rows rows' ×
+    (new.filter ≡ old.filter) × (is_line : Bool) × (size : ℕ) ×
+    SeesCounted old.filter printing.client side now old new piece watched.used what is_line size rows rows' ×
     PrintsCounted old.filter printing now what before after failures failures' watched.printed

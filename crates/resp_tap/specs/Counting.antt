@@ -1,5 +1,5 @@
 -- What is counted of the commands of a connection, each with its reply.
-use Rattle.std.specs.Prelude.{◌≡◌, ◌⊎◌, ℕ, ◌+◌, ◌-◌, ◌<◌, Bool, true, false, ◌&&◌, List, [], ◌∷◌, ◌++◌, drop, length, min, nat_lt, slice_get, Option, None, Some}
+use Rattle.std.specs.Prelude.{◌≡◌, ◌⊎◌, ℕ, ◌-◌, ◌<◌, Bool, true, false, ◌&&◌, List, length, nat_lt, slice_get, Option, None, Some}
 use Rattle.std.specs.Bool.{MatchBool}
 use Rattle.resp_stats.specs.Names.{table_name}
 use Rattle.resp_stats.specs.Rows.{CountsCall, MayAddRow, has_name}
@@ -8,17 +8,15 @@ use Rattle.resp_stats.specs.declared.row.CommandRow.{CommandRow}
 use Rattle.resp_value.specs.Values.{datum_of}
 use Rattle.resp_session.specs.Reading.{is_refusal}
 use Rattle.resp_tap.specs.Filters.{DropsWords, KeepsWords, keeps_answer, keeps_client}
-use Rattle.resp_tap.specs.Taken.{KeepsTaken, left_of, taken_of}
-use Rattle.resp_tap.specs.Times.{IsAskedIn, next_asked, waited_of, waits_in}
+use Rattle.resp_tap.specs.Keeping.{KeptBy, new_words}
+use Rattle.resp_tap.specs.Times.{IsAskedIn, next_asked, waited_of}
 use Rattle.resp_tap.specs.declared.counted.Asked.{Asked}
 use Rattle.resp_tap.specs.declared.connection.KeepingTap.{KeepingTap}
-use Rattle.resp_tap.specs.declared.counted.Asks.{Asks}
 use Rattle.resp_tap.specs.declared.counted.Heard.{Heard}
 use Rattle.resp_tap.specs.declared.filter.Filter.{Filter}
 use Rattle.resp_tap.specs.declared.moment.Moment.{Moment}
 use Rattle.resp_tap.specs.declared.seen.Seen.{Seen}
 use Rattle.resp_tap.specs.declared.seen.Seen.TheVariants as seen
-use Rattle.resp_tap.specs.declared.watch.Side.{Side}
 
 -- ---- commands
 
@@ -33,21 +31,14 @@ abbrev pub IsCounted : Filter → ℕ → List (List ℕ) → Bool → Type 0
 IsCounted f client words counted = MatchBool counted ((keeps_client f client ≡ true) × KeepsWords f words)
     ((keeps_client f client ≡ false) ⊎ DropsWords f words)
 
--- the command is kept behind the others, with the place of its row and its bytes
-pub record KeepsCall (f : Filter) (client : ℕ) (words : List (List ℕ)) (bytes : ℕ) (old new : List Asked) (rows' : List CommandRow) :
-    Type 0 where
-  pub place : Option ℕ
+-- This is kept of a command behind so many others: the place of its row and its bytes. Each of the others is kept.
+pub record IsAsked (f : Filter) (client bytes before : ℕ) (others : List Asked) (rows' : List CommandRow) (words : List (List ℕ))
+    (asked : Asked) : Type 0 where
+  pub behind : length others ≡ before
   pub counted : Bool
   pub is_counted : IsCounted f client words counted
-  pub is_place : IsPlaceFor counted (table_name words) rows' place
-  pub kept : new ≡ old ++ record { place = place; bytes = bytes } ∷ []
-
--- A command of this many bytes waits behind this many others. It is kept if each of the others is kept and memory is
--- available, and otherwise nothing is kept of it.
-pub record AsksCall (f : Filter) (client : ℕ) (words : List (List ℕ)) (before bytes : ℕ) (old new : List Asked)
-    (rows rows' : List CommandRow) : Type 0 where
-  pub may_add : MayAddRow (table_name words) rows rows'
-  pub asked : (new ≡ old) ⊎ ((length old ≡ before) × KeepsCall f client words bytes old new rows')
+  pub is_place : IsPlaceFor counted (table_name words) rows' asked.place
+  pub size : asked.bytes ≡ bytes
 
 -- ---- replies
 
@@ -79,35 +70,32 @@ ReleasesCall gone f asked heard rows rows' =
 
 -- ---- steps
 
--- what is kept and counted after a result, by which one more command waits or this many wait no more
-abbrev pub CountsBy : Bool → Filter → ℕ → Seen → Heard → ℕ → ℕ → ℕ → List Asked → List Asked → List CommandRow → List CommandRow → Type 0
-CountsBy true f client (seen.Command number words lengths) heard before gone at old new rows rows' =
-    AsksCall f client words before heard.bytes old new rows rows'
-CountsBy more f client what heard before gone at old new rows rows' =
-    (new ≡ drop gone old) × ReleasesCall gone f (slice_get old at) heard rows rows'
-
--- the same, if this many commands waited before it and after it
-abbrev pub CountsAfter : Filter → ℕ → Seen → Heard → ℕ → ℕ → ℕ → List Asked → List Asked → List CommandRow → List CommandRow → Type 0
-CountsAfter f client what heard before after at old new rows rows' =
-    CountsBy (nat_lt before after) f client what heard before (before - after) at old new rows rows'
+-- What is counted at a result: a new command with these words may get a row. Otherwise this many commands wait no more, and
+-- the one of which this is kept is counted.
+abbrev pub CountsBy : Filter → Option (List (List ℕ)) → Heard → ℕ → Option Asked → List CommandRow → List CommandRow → Type 0
+CountsBy f None heard gone asked rows rows' = ReleasesCall gone f asked heard rows rows'
+CountsBy f (Some words) heard gone asked rows rows' = MayAddRow (table_name words) rows rows'
 
 abbrev pub CountedTap : Type 0
-CountedTap = KeepingTap Asks
+CountedTap = KeepingTap Asked
+
+-- what is kept of the command that the next reply belongs to
+abbrev pub asked_of : CountedTap → Option Asked
+asked_of t = slice_get t.kept.items (next_asked t.connection.tap)
 
 -- What was heard by a result: its bytes, and the delay of the command that it answers.
-pub record IsHeard (side : Side) (now : Moment) (old : CountedTap) (used : ℕ) (what : Seen) (heard : Heard) : Type 0 where
-  pub bytes : heard.bytes ≡ min (taken_of side old.kept.taken + used) 18446744073709551615
+pub record IsHeard (now : Moment) (old : CountedTap) (size : ℕ) (what : Seen) (heard : Heard) : Type 0 where
+  pub bytes : heard.bytes ≡ size
   pub error : heard.is_error ≡ is_error what
   pub asked : Option ℕ
   pub of_command : IsAskedIn old.connection.tap asked
   pub delay : heard.waited ≡ waited_of now asked what
 
--- The first result in a piece is counted.
-pub record CountsSeen (f : Filter) (client : ℕ) (side : Side) (now : Moment) (old new : CountedTap) (used : ℕ) (what : Seen)
-    (rows rows' : List CommandRow) : Type 0 where
+-- The first result in a piece is counted, if this many commands waited before it and after it.
+pub record CountsSeen (f : Filter) (client : ℕ) (now : Moment) (old new : CountedTap) (size : ℕ) (what : Seen)
+    (before after : ℕ) (rows rows' : List CommandRow) : Type 0 where
   pub heard : Heard
-  pub is_heard : IsHeard side now old used what heard
-  pub left : taken_of side new.kept.taken ≡ left_of what heard.bytes
-  pub same_taken : KeepsTaken side old.kept.taken new.kept.taken
-  pub counts : CountsAfter f client what heard (waits_in old.connection.tap) (waits_in new.connection.tap)
-      (next_asked old.connection.tap) old.kept.asked.items new.kept.asked.items rows rows'
+  pub is_heard : IsHeard now old size what heard
+  pub asked : KeptBy (IsAsked f client size before old.kept.items rows') (new_words (nat_lt before after) what) (before - after)
+      old.kept.items new.kept.items
+  pub counts : CountsBy f (new_words (nat_lt before after) what) heard (before - after) (asked_of old) rows rows'

@@ -1,5 +1,5 @@
 -- The results that a tap reports and prints as JSON for the pieces of either side.
-use Rattle.std.specs.Prelude.{◌≡◌, ℕ, ◌+◌, Bool, List, [], min, slice_get, Option, Some, Result, if◌then◌else◌}
+use Rattle.std.specs.Prelude.{◌≡◌, ℕ, Bool, List, [], slice_get, Option, Some, Result, if◌then◌else◌}
 use Rattle.resp_value.specs.Data.{Datum}
 use Rattle.resp_print.specs.Printed.{Prints}
 use Rattle.resp_print.specs.declared.print_error.PrintError.{PrintError}
@@ -8,7 +8,6 @@ use Rattle.resp_tap.specs.Filters.{keeps}
 use Rattle.resp_tap.specs.JsonLines.{seen_json}
 use Rattle.resp_tap.specs.Connections.{SeesNext}
 use Rattle.resp_tap.specs.SeenOf.{IsKeptIn}
-use Rattle.resp_tap.specs.Taken.{KeepsTaken, left_of, taken_of}
 use Rattle.resp_tap.specs.Taps.{tap_state}
 use Rattle.resp_tap.specs.Times.{IsAskedIn, next_asked, waited_of, waits_in}
 use Rattle.resp_tap.specs.Watches.{StepOn}
@@ -16,33 +15,29 @@ use Rattle.resp_tap.specs.declared.called.Called.{Called}
 use Rattle.resp_tap.specs.declared.filter.Filter.{Filter}
 use Rattle.resp_tap.specs.declared.json_line.Facts.{Facts}
 use Rattle.resp_tap.specs.declared.connection.KeepingTap.{KeepingTap}
-use Rattle.resp_tap.specs.declared.json_tap.Calls.{Calls}
 use Rattle.resp_tap.specs.declared.moment.Moment.{Moment}
 use Rattle.resp_tap.specs.declared.seen.Seen.{Seen}
 use Rattle.resp_tap.specs.declared.watch.Side.{Side}
 
 abbrev pub JsonTap : Type 0
-JsonTap = KeepingTap Calls
+JsonTap = KeepingTap Called
 
 -- what is kept of the command that the next reply belongs to
 abbrev pub called_of : JsonTap → Option Called
-called_of t = slice_get t.kept.calls.items (next_asked t.connection.tap)
+called_of t = slice_get t.kept.items (next_asked t.connection.tap)
 
 -- the line of a result, if the filter lets it through: that of this whole command or value
 abbrev pub kept_json : Filter → Facts → Bool → List ℕ → Datum → Seen → List ℕ
 kept_json f facts is_chosen name whole what =
     if keeps f facts.client is_chosen facts.waited what then seen_json facts name whole what else []
 
--- The first result in a piece: it is reported as without JSON, and that of a line too. Its bytes are those of this piece
--- and of earlier ones that belong to it.
+-- The first result in a piece: it is reported as without JSON, and that of a line too. What is kept follows the commands
+-- that wait.
 pub record SeesJson (f : Filter) (side : Side) (now : Moment) (old new : JsonTap) (piece : List ℕ) (used : ℕ) (what : Seen)
     (is_line is_chosen : Bool) (size : ℕ) : Type 0 where
-  pub seen : SeesNext (Some now) side old.connection new.connection piece used what is_line
-  pub bytes : size ≡ min (taken_of side old.kept.taken + used) 18446744073709551615
-  pub left : taken_of side new.kept.taken ≡ left_of what size
-  pub same_taken : KeepsTaken side old.kept.taken new.kept.taken
+  pub seen : SeesNext (Some now) side old.connection new.connection piece used what is_line size
   pub chosen : IsChosenCalled f (called_of old) what is_chosen
-  pub calls : CalledAfter is_chosen what (waits_in old.connection.tap) (waits_in new.connection.tap) old.kept.calls.items new.kept.calls.items
+  pub calls : CalledAfter is_chosen what (waits_in old.connection.tap) (waits_in new.connection.tap) old.kept.items new.kept.items
 
 -- The line of the result is printed if the filter lets it through, as far as writes succeed. A reply has the name and the
 -- delay of its command.

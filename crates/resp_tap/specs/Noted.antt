@@ -1,8 +1,8 @@
 -- What is kept of the commands that wait while a filter is used, and what is printed through it.
-use Rattle.std.specs.Prelude.{◌≡◌, ℕ, ◌-◌, ◌≤◌, Bool, true, false, ◌&&◌, List, [], ◌++◌, length, take, nat_lt, Option, None, Some, option_and_then, option_map, if◌then◌else◌, codes}
+use Rattle.std.specs.Prelude.{◌≡◌, ℕ, ◌-◌, ◌<◌, ◌≤◌, Bool, true, false, ◌&&◌, List, [], ◌++◌, length, take, nat_lt, Option, None, Some, option_and_then, option_map, if◌then◌else◌, codes}
 use Rattle.resp_value.specs.Data.{Datum}
 use Rattle.resp_tap.specs.Filters.{is_by_reply, is_selective, keeps, keeps_all}
-use Rattle.resp_tap.specs.Keeping.{IsAdded, IsChosenBy, KeptBy}
+use Rattle.resp_tap.specs.Keeping.{IsChosenBy, KeptBy, new_words}
 use Rattle.resp_tap.specs.Secrets.{printed_words}
 use Rattle.resp_tap.specs.Texts.{heading, seen_text, words_text}
 use Rattle.resp_tap.specs.declared.filter.Filter.{Filter}
@@ -39,19 +39,18 @@ pub record IsNote (p : TextOptions) (now : Option Moment) (is_line is_chosen : B
   pub chosen : note.is_chosen ≡ is_chosen
   pub first_bytes : note.text.items ≡ take room (shown_words p words)
   pub whole : note.is_whole ≡ true → length (shown_words p words) ≤ room
-  pub part : note.is_whole ≡ false → room ≤ length (shown_words p words)
+  pub part : note.is_whole ≡ false → 0 < room → room < length (shown_words p words)
 
--- the next command that waits was added, with as much of its words as there is room for
-abbrev pub IsNoted : Filter → TextOptions → Option Moment → Bool → Bool → List (List ℕ) → List Note → List Note → Type 0
-IsNoted f p now is_line is_chosen words old new =
-    IsAdded (IsNote p now is_line is_chosen words (room_for f is_chosen (length old))) old new
+-- the same of a command behind those with these notes, with as much of its words as there is room for
+abbrev pub IsNoteBehind : Filter → TextOptions → Option Moment → Bool → Bool → List Note → List (List ℕ) → Note → Type 0
+IsNoteBehind f p now is_line is_chosen others words = IsNote p now is_line is_chosen words (room_for f is_chosen (length others))
 
--- The items after a result, if this many commands waited before it and after it: the item of a new command is added,
--- and the items of commands that wait no more are dropped.
+-- The notes after a result, if this many commands waited before it and after it: the note of a new command is added, and
+-- the notes of commands that wait no more are dropped.
 abbrev pub NotesAfter : Filter → TextOptions → Option Moment → Bool → Bool → Seen → ℕ → ℕ → List Note → List Note →
     Type 0
 NotesAfter f p now is_line is_chosen what before after old new =
-    KeptBy (nat_lt before after && is_selective f) (IsNoted f p now is_line is_chosen) what (before - after) old new
+    KeptBy (IsNoteBehind f p now is_line is_chosen old) (new_words (nat_lt before after && is_selective f) what) (before - after) old new
 
 -- ---- what is printed
 

@@ -8,7 +8,6 @@ use Rattle.resp_tap.specs.declared.stamp.Stamp.{Stamp}
 use Rattle.resp_tap.specs.declared.seen.Seen.{Seen}
 use Rattle.resp_tap.specs.declared.seen.Seen.TheVariants as seen
 use Rattle.resp_tap.specs.declared.tap.Tap.{Tap}
-use Rattle.resp_tap.specs.declared.waiting.Waiting.{Waiting}
 
 -- the number of commands that wait
 abbrev pub waits_in : Tap → ℕ
@@ -26,12 +25,6 @@ next_asked t = asked_at (tap_state t).line.due
 -- this is the time of the command that the next reply belongs to, if a command waits and its time is known
 abbrev pub IsAskedIn : Tap → Option ℕ → Type 0
 IsAskedIn t asked = asked ≡ option_and_then (λ time. time) (slice_get (times_of t) (next_asked t))
-
--- these commands wait
-pub record AreWaiting (t : Tap) (waiting : Waiting) : Type 0 where
-  pub number : waiting.count ≡ waits_in t
-  pub index : waiting.next ≡ next_asked t
-  pub time : IsAskedIn t waiting.asked
 
 -- the time that is kept of a command that arrived at this moment
 abbrev pub steady_of : Option Moment → Option ℕ

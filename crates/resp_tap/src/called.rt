@@ -14,7 +14,7 @@ const MOST: usize = 32;
 
 /// The printed name of a command: the first 32 bytes of its first word, with letters in upper case.
 #[derive(Drop)]
-pub(crate) struct Called {
+pub struct Called {
     pub(crate) name: ArrayVec<u8, MOST>,
     /// Whether the filter lets the command through by its words.
     pub(crate) is_chosen: bool,

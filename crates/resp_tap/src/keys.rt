@@ -3,21 +3,33 @@
 ghost use Rattle.std.specs.Prelude.{◌≡◌, drop};
 ghost use Rattle.std.specs.Bool.{MatchBool};
 ghost use Rattle.resp_commands.specs.Keys.{AreKeys};
-ghost use Rattle.resp_tap.specs.Keyed.{HasKeyLike, IsFirstArgument, IsKeyed, IsUnkeyed, name_in};
+ghost use Rattle.resp_tap.specs.Keyed.{HasKeyLike, IsFirstArgument, IsKeyed, IsLike, IsUnkeyed, has_channels, name_in};
 
 use resp_commands::glob::matches;
 use resp_commands::{Arguments, KeyPlaces, Keys, fixed_key_places, key_places, row_of};
+use resp_session::names::is_name;
 use resp_session::words::Words;
 
 /// Returns whether a glob matches one of the keys of a command. The table of `resp_commands` says
-/// which words are keys.
+/// which words are keys. Channels, which this table has in their places, are no keys.
 pub(crate) fn has_key(words: &Words, glob: &[u8]) -> bool
     ensures { MatchBool result (IsKeyed glob.now words.now) (IsUnkeyed glob.now words.now) }
 {
-    let Some(row) = row_of(name_in(words), first_argument(words)) else {
+    let name = name_in(words);
+    let Some(row) = row_of(name, first_argument(words)) else {
         return false;
     };
+    if has_channels(name) {
+        return false;
+    }
     has_key_at(words, glob, places_of(&row.keys, words))
+}
+
+/// Returns whether the table has the channels of a command of this name in the places of keys.
+fn has_channels(name: &[u8]) -> bool
+    ensures { result ≡ has_channels name.now }
+{
+    is_name(name, b"ssubscribe") || is_name(name, b"sunsubscribe") || is_name(name, b"spublish")
 }
 
 /// Returns the name of a command.
@@ -33,11 +45,22 @@ fn has_key_at(words: &Words, glob: &[u8], places: KeyPlaces) -> bool
         (HasKeyLike glob.now words.now keys) (HasKeyLike glob.now words.now keys → ⊥) }
 {
     for place in 0..words.len() {
-        if places.contains(place) && matches(glob, words.word(place)) {
+        if places.contains(place) && is_like(words.word(place), glob) {
             return true;
         }
     }
     false
+}
+
+/// Returns whether KEYS would return this key for a glob. An empty key is returned only for `*` and
+/// for the empty glob.
+fn is_like(key: &[u8], glob: &[u8]) -> bool
+    ensures { MatchBool result (IsLike glob.now key.now) (IsLike glob.now key.now → ⊥) }
+{
+    if key.is_empty() && glob.len() > 1 {
+        return false;
+    }
+    matches(glob, key)
 }
 
 /// Returns the word after the name, if there is one.

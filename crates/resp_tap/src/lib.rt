@@ -3,8 +3,8 @@
 //!
 //! [`tap::Tap`] has no socket. It receives the bytes that both sides of a connection send, and
 //! reports each command, reply and push. It knows how long each command has waited for its reply.
-//! [`watch::watch`] prints the traffic as `resp tap` does, and [`json_tap::watch_json`] prints it as
-//! JSON.
+//! [`watch::watch`] prints the traffic as `resp tap` does: as text, or as JSON with a [`JsonTap`]. With
+//! a [`CountedTap`] it counts the commands.
 #![tactic(auto)]
 
 mod called;
@@ -12,7 +12,6 @@ pub mod client_name;
 pub mod connection;
 pub mod counted;
 mod date;
-mod each_result;
 pub mod end;
 pub mod filter;
 pub mod filtered;
@@ -37,7 +36,6 @@ mod side_reader;
 pub mod stamp;
 mod taken;
 pub mod tap;
-mod waiting;
 pub mod watch;
 
 pub use client_name::ClientName;

@@ -26,7 +26,7 @@ const LONGEST: usize = 65_536;
 /// The lines among the bytes of a client. A line that has not ended is held.
 #[derive(Drop)]
 pub(crate) struct Lines {
-    alloc: Global,
+    pub(crate) alloc: Global,
     /// Whether a line is a command.
     pub(crate) are_read: bool,
     /// The bytes of a line that has not ended.

@@ -1,6 +1,6 @@
 //! The notes of the commands that wait, while a filter is used.
 
-ghost use Rattle.std.specs.Prelude.{◌++◌, ◌≡◌, ◌≤◌, ℕ, List, [], false, true, length, take, IfOk, if◌then◌else◌, option_map};
+ghost use Rattle.std.specs.Prelude.{◌++◌, ◌≡◌, ◌<◌, ◌≤◌, ℕ, List, [], false, true, length, take, IfOk, if◌then◌else◌, option_map};
 ghost use Rattle.resp_print.specs.Printed.{Prints};
 ghost use Rattle.resp_print.specs.Written.{WritesText};
 ghost use Rattle.resp_tap.specs.Filters.{is_by_reply};
@@ -29,7 +29,7 @@ const MOST_KEPT: usize = 1_024;
 
 /// The note of a command that waits for its reply.
 #[derive(Debug, Drop)]
-pub(crate) struct Note {
+pub struct Note {
     /// The time at which it arrived, if times are printed.
     pub(crate) utc: Option<Utc>,
     /// Whether the client sent it as a line.
@@ -117,7 +117,8 @@ fn first_bytes(
         IfOk result (λ kept. kept.1 ≡ true → length (shown_words options whole) ≤ room) }
     ensures part { (whole : List (List ℕ)) →
         AreKeptOf options.shown.most options.kept.most whole words.now lengths.now →
-        IfOk result (λ kept. kept.1 ≡ false → room ≤ length (shown_words options whole)) }
+        IfOk result (λ kept. kept.1 ≡ false → 0 < room →
+        room < length (shown_words options whole)) }
 {
     if room == 0 {
         return Ok((Vec::new(alloc), false));

@@ -10,10 +10,12 @@ ghost use Rattle.resp_tap.specs.declared.seen.Place.TheVariants as place;
 use crate::kind::command_kind;
 use crate::line::Line;
 use crate::moment::Moment;
+use crate::print::write_seen;
 use crate::seen::{Place, Seen, Step};
 use crate::shown_part::ShownPart;
 use crate::side_reader::SideReader;
-use crate::waiting::Waiting;
+use crate::watch::{Given, Side, Watched, Watching, stamp_of, step};
+use resp_io::device::Sink;
 use resp_session::words::{Requested, Words, asked_by};
 use resp_value::CutValue;
 use resp_value::cause::Cause;
@@ -129,7 +131,7 @@ impl Tap {
     ghost use Rattle.resp_tap.specs.Parts.{IsKeptOf, kept_for};
     ghost use Rattle.resp_value.specs.Data.{Datum};
     ghost use Rattle.resp_tap.specs.Taps.{at_front, new_tap, tap_state, with_command, with_refused_command, with_refused_reply, with_value};
-    ghost use Rattle.resp_tap.specs.Times.{AreWaiting, IsAskedIn, KeepsTimes, times_of, waits_in};
+    ghost use Rattle.resp_tap.specs.Times.{IsAskedIn, KeepsTimes, times_of, waits_in};
     ghost use Rattle.resp_tap.specs.Watching.{HasTakenRequest, HasTakenSomeRequest, HasTakenSomeValue, HasTakenValue, IsLeftOut, KeepsRequest, KeepsValue, SeesRequest, SeesValue, WhereAnswered, WhereRequested, place_of_value, request_rules};
 
     /// Returns a tap of a new connection, which is read within these limits. It keeps one byte
@@ -169,17 +171,6 @@ impl Tap {
         ensures { IsAskedIn self.now result }
     {
         self.line.kept_at(self.line.asked_at()).copied().flatten()
-    }
-
-    /// Returns the commands that wait for their replies.
-    pub(crate) fn awaited(&self) -> Waiting
-        ensures { AreWaiting self.now result }
-    {
-        Waiting {
-            count: self.line.waiting(),
-            next: self.line.asked_at(),
-            asked: self.asked(),
-        }
     }
 
     /// Reads bytes that the client sent, which arrived at this moment, until a command is complete or
@@ -411,5 +402,42 @@ impl Tap {
     {
         let number = self.line.hear(&kept.value);
         told_as(number, kept)
+    }
+}
+
+/// Prints the commands, replies and pushes. If a moment is given, the first line of a result ends
+/// with the time. The first line of a reply also has the seconds that its command waited.
+impl Watching for Tap {
+    ghost use Rattle.resp_tap.specs.Watches.{Watches};
+    ghost use Rattle.resp_tap.specs.declared.tap.Tap.{Tap};
+
+    type Given = Given<Option<Moment>>;
+
+    type Shared = ();
+
+    ghost State = { Tap };
+
+    ghost state = { λ tap _. tap };
+
+    ghost tap_in = { λ tap. tap };
+
+    ghost watches = { λ given side. Watches given.printing side given.now };
+
+    fn watch_some<W: Sink>(
+        &mut self,
+        _shared: &mut Self::Shared,
+        given: Self::Given,
+        side: Side,
+        piece: &[u8],
+        writer: &mut W,
+    ) -> Watched {
+        let options = self.options(given.printing);
+        let asked = self.asked();
+        let step = step(self, side, piece, given.now);
+        let stamp = stamp_of(given.now, asked, &step.seen);
+        let printed = write_seen(options, false, stamp, &step.seen, writer);
+        let used = step.used;
+        drop(step);
+        Watched { used, printed }
     }
 }

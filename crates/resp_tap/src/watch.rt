@@ -1,13 +1,12 @@
-//! Prints the traffic of a connection, piece by piece.
+//! Reads the traffic of a connection, piece by piece, and prints or counts it.
 
-ghost use Rattle.std.specs.Prelude.{◌≡◌, ◌<◌, ◌≤◌, List, length, false};
+ghost use Rattle.std.specs.Prelude.{◌≡◌, ◌<◌, ◌≤◌, List, length};
 ghost use Rattle.resp_tap.specs.Times.{stamp_of, waited_of};
-ghost use Rattle.resp_tap.specs.Watches.{KeepsOther, SeesFirst, Watches, WatchesAll};
+ghost use Rattle.resp_tap.specs.Watches.{KeepsOther, SeesFirst, WatchesAll};
 ghost use Rattle.resp_tap.specs.declared.seen.Seen.{Seen};
 
-use crate::each_result::{Given, WatchSome, watch_each};
 use crate::moment::Moment;
-use crate::print::{Printing, write_seen};
+use crate::print::Printing;
 use crate::seen::{Seen, Step};
 use crate::stamp::Stamp;
 use crate::tap::Tap;
@@ -21,13 +20,131 @@ pub enum Side {
     Server,
 }
 
-/// The result of [`watch_some`].
+/// How the results in a piece are printed, and the moment at which the piece arrived.
+#[derive(Clone, Copy)]
+pub struct Given<N> {
+    pub printing: Printing,
+    pub now: N,
+}
+
+/// The result of [`Watching::watch_some`].
 #[derive(Clone, Copy, Debug, PartialEq, Eq)]
 pub struct Watched {
     /// The number of bytes read from the front of the piece.
     pub used: usize,
     /// The result of printing, with the errors of [`write_seen`].
     pub printed: Result<(), PrintError>,
+}
+
+/// A tap whose results are printed or counted.
+pub trait Watching {
+    ghost use Rattle.resp_tap.specs.Watches.{KeepsOther, StepOn};
+    ghost use Rattle.resp_tap.specs.declared.seen.Seen.{Seen};
+    ghost use Rattle.resp_tap.specs.declared.tap.Tap.{Tap};
+    ghost use Rattle.resp_tap.specs.declared.watch.Side.{Side};
+
+    /// How results are printed, with the moment at which a piece arrived: a [`Given`] with a
+    /// [`Moment`], or with an `Option<Moment>` if the tap prints no time without it.
+    type Given: Copy;
+
+    /// What the taps of all connections share, such as counts.
+    type Shared;
+
+    /// What a step changes.
+    ghost State: { Type 0 };
+
+    /// The state of a tap, and of what it shares.
+    ghost state: { Self → Self.Shared → State };
+
+    /// The tap of the commands and replies.
+    ghost tap_in: { Self → Tap };
+
+    /// The first result in a piece of this side is read, and printed or counted.
+    ghost watches: { Self.Given → Side → StepOn State };
+
+    /// Reads bytes that one side sent, until there is a result or the piece ends, and prints or
+    /// counts the result.
+    ///
+    /// The call reads at least one byte of a piece that is not empty. Call it again with the rest of
+    /// the piece.
+    ///
+    /// # Errors
+    ///
+    /// [`Watched::printed`] has the error of printing. The tap has read the bytes in any case.
+    fn watch_some<W: Sink>(
+        &mut self,
+        shared: &mut Self::Shared,
+        given: Self::Given,
+        side: Side,
+        piece: &[u8],
+        writer: &mut W,
+    ) -> Watched
+        ensures watches { (what : Seen) × watches given side (state self.old shared.old)
+            (state self.new shared.new) piece.now result what (W.written writer.old)
+            (W.written writer.new) (W.failures writer.old) (W.failures writer.new) }
+        ensures other_side { KeepsOther side (tap_in self.old) (tap_in self.new) }
+        ensures within_piece { result.used ≤ length piece.now }
+        ensures uses_bytes { 0 < length piece.now → 0 < result.used };
+}
+
+/// Reads a piece that one side sent, and prints or counts all commands, replies and pushes in it, as
+/// [`Watching::watch_some`] does. `shared` is what the taps of all connections share: the counts of a
+/// [`CountedTap`](crate::CountedTap), and `()` for other taps.
+///
+/// # Errors
+///
+/// The first error of printing. The tap has read the whole piece, and has tried to print all of its
+/// results.
+///
+/// # Examples
+///
+/// From [samples](../../samples/src/tapping.rt):
+///
+/// ```rust
+/// let mut tap = Tap::new(alloc, &Limits::standard(), ShownPart::all());
+/// let mut text = MemorySink::new(alloc, 4_096, 4_096)?;
+/// let printing = Printing {
+///     client: 1,
+///     shows_passwords: false,
+/// };
+/// let given = Given { printing, now: None };
+/// let get = b"*2\r\n$3\r\nGET\r\n$4\r\nhits\r\n";
+/// watch(&mut tap, &mut (), given, Side::Client, get, &mut text)?;
+/// watch(&mut tap, &mut (), given, Side::Server, b":7\r\n", &mut text)?;
+/// print!(rt; "{}", str::from_utf8(text.bytes())?)?;
+/// ```
+///
+/// This prints:
+///
+/// ```text
+/// client 1 command 1
+///   "GET" "hits"
+/// client 1 reply 1
+///   int 7
+/// ```
+#[tactic(auto, using(crate::proofs::PieceLemmas::keeps_on, crate::proofs::PieceLemmas::watched_more, crate::proofs::PieceLemmas::watched_all))]
+pub fn watch<T: Watching, W: Sink>(
+    tap: &mut T,
+    shared: &mut T::Shared,
+    given: T::Given,
+    side: Side,
+    piece: &[u8],
+    writer: &mut W,
+) -> Result<(), PrintError>
+    ensures watches { (all : List Seen) × WatchesAll (T.watches given side) all
+        (T.state tap.old shared.old) (T.state tap.new shared.new) piece.now (W.written writer.old)
+        (W.written writer.new) (W.failures writer.old) (W.failures writer.new) result }
+    ensures other_side { KeepsOther side (T.tap_in tap.old) (T.tap_in tap.new) }
+{
+    let mut rest = piece;
+    let mut printed = Ok(());
+    while !rest.is_empty() {
+        let watched = tap.watch_some(shared, given, side, rest, writer);
+        printed = printed.and(watched.printed);
+        // At least one byte was read.
+        rest = &rest[watched.used..];
+    }
+    printed
 }
 
 /// Reads bytes that one side sent, until there is a result or the piece ends.
@@ -61,115 +178,4 @@ pub(crate) fn stamp_of(now: Option<Moment>, asked: Option<u64>, seen: &Seen) -> 
         utc: now.utc,
         waited: waited_of(now, asked, seen),
     })
-}
-
-/// Reads bytes that one side sent, until there is a result or the piece ends, and prints the
-/// result. If a moment is given, the first line ends with the time. The first line of a reply also
-/// has the seconds that its command waited.
-///
-/// The call reads at least one byte of a piece that is not empty. Call it again with the rest of
-/// the piece.
-///
-/// # Errors
-///
-/// [`Watched::printed`] has the error of printing. The tap has read the bytes in any case.
-pub fn watch_some<W: Sink>(
-    tap: &mut Tap,
-    printing: Printing,
-    side: Side,
-    piece: &[u8],
-    now: Option<Moment>,
-    writer: &mut W,
-) -> Watched
-    ensures watches { (what : Seen) × Watches printing side now tap.old tap.new piece.now result
-        what (W.written writer.old) (W.written writer.new) (W.failures writer.old)
-        (W.failures writer.new) }
-    ensures other_side { KeepsOther side tap.old tap.new }
-    ensures within_piece { result.used ≤ length piece.now }
-    ensures uses_bytes { 0 < length piece.now → 0 < result.used }
-{
-    let options = tap.options(printing);
-    let asked = tap.asked();
-    let step = step(tap, side, piece, now);
-    let stamp = stamp_of(now, asked, &step.seen);
-    let printed = write_seen(options, false, stamp, &step.seen, writer);
-    let used = step.used;
-    drop(step);
-    Watched { used, printed }
-}
-
-/// Reads a piece that one side sent, and prints all commands, replies and pushes in it, as
-/// [`watch_some`] does.
-///
-/// # Errors
-///
-/// The first error of printing. The tap has read the whole piece, and has tried to print all of its
-/// results.
-///
-/// # Examples
-///
-/// From [samples](../../samples/src/tapping.rt):
-///
-/// ```rust
-/// let mut tap = Tap::new(alloc, &Limits::standard(), ShownPart::all());
-/// let mut text = MemorySink::new(alloc, 4_096, 4_096)?;
-/// let printing = Printing {
-///     client: 1,
-///     shows_passwords: false,
-/// };
-/// let get = b"*2\r\n$3\r\nGET\r\n$4\r\nhits\r\n";
-/// watch(&mut tap, printing, Side::Client, get, None, &mut text)?;
-/// watch(&mut tap, printing, Side::Server, b":7\r\n", None, &mut text)?;
-/// print!(rt; "{}", str::from_utf8(text.bytes())?)?;
-/// ```
-///
-/// This prints:
-///
-/// ```text
-/// client 1 command 1
-///   "GET" "hits"
-/// client 1 reply 1
-///   int 7
-/// ```
-pub fn watch<W: Sink>(
-    tap: &mut Tap,
-    printing: Printing,
-    side: Side,
-    piece: &[u8],
-    now: Option<Moment>,
-    writer: &mut W,
-) -> Result<(), PrintError>
-    ensures watches { (all : List Seen) × WatchesAll (Watches printing side now) all tap.old tap.new
-        piece.now (W.written writer.old) (W.written writer.new) (W.failures writer.old)
-        (W.failures writer.new) result }
-    ensures other_side { KeepsOther side tap.old tap.new }
-{
-    let given = Given { printing, now };
-    watch_each(tap, &mut (), given, side, piece, writer)
-}
-
-impl WatchSome<Given<Option<Moment>>> for Tap {
-    ghost use Rattle.resp_tap.specs.Watches.{Watches};
-    ghost use Rattle.resp_tap.specs.declared.tap.Tap.{Tap};
-
-    type Shared = ();
-
-    ghost State = { Tap };
-
-    ghost state = { λ tap _. tap };
-
-    ghost tap_in = { λ tap. tap };
-
-    ghost watches = { λ given side. Watches given.printing side given.now };
-
-    fn watch_some<W: Sink>(
-        &mut self,
-        _shared: &mut Self::Shared,
-        given: Given<Option<Moment>>,
-        side: Side,
-        piece: &[u8],
-        writer: &mut W,
-    ) -> Watched {
-        watch_some(self, given.printing, side, piece, given.now, writer)
-    }
 }

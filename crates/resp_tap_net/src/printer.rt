@@ -3,19 +3,16 @@
 use crate::remark::Remark;
 use crate::shown::ShownLines;
 use crate::stats::Stats;
-use crate::timing::Timing;
+use crate::timing::{Timing, TrafficClock};
 use crate::watcher::Watcher;
 use resp_io::device::{DeviceFault, Sink};
 use resp_print::text::write_text;
 use resp_stats::table_of;
-use resp_tap::counted::watch_counted;
 use resp_tap::end::{write_end, write_named_line};
-use resp_tap::filtered::watch_filtered;
 use resp_tap::json_line::{write_closed_json, write_remark_json};
-use resp_tap::json_tap::watch_json;
 use resp_tap::print::{write_line, write_remark};
 use resp_tap::stamp::Stamp;
-use resp_tap::watch::Side;
+use resp_tap::watch::{Given, Side, watch};
 use resp_tap::{Cut, Moment, Printing};
 use std::alloc::Global;
 use std::rt::Clock;
@@ -30,6 +27,8 @@ const NO_TABLE: &[u8] = b"out of memory for the table\n";
 pub(crate) struct Printer<'a, 'f, 's, W, C> {
     clock: &'a C,
     timing: &'a mut Timing,
+    /// The moment of the last [`look`](Printer::look), if there was one and times are printed.
+    seen: Option<Moment>,
     stats: Option<&'s mut Stats>,
     shown: &'f ShownLines,
     writer: Option<&'a mut W>,
@@ -50,6 +49,7 @@ impl<'a, 'f, 's, W: Sink, C: Clock> Printer<'a, 'f, 's, W, C> {
         Printer {
             clock,
             timing,
+            seen: None,
             stats,
             shown,
             writer,
@@ -57,9 +57,20 @@ impl<'a, 'f, 's, W: Sink, C: Clock> Printer<'a, 'f, 's, W, C> {
         }
     }
 
-    /// Returns the clock.
-    pub(crate) fn clock(&self) -> &'a C {
-        self.clock
+    /// Reads the clocks if times are printed. All lines up to the next call have this time. Returns a
+    /// clock that shows it.
+    pub(crate) fn look(&mut self) -> TrafficClock<'a, C> {
+        self.seen = self.timing.now(self.clock);
+        TrafficClock::new(self.clock, self.seen)
+    }
+
+    /// Returns the moment of the last [`look`](Printer::look), or else the current moment, if times
+    /// are printed.
+    fn now(&mut self) -> Option<Moment> {
+        if self.seen.is_some() {
+            return self.seen;
+        }
+        self.timing.now(self.clock)
     }
 
     /// Reads a piece that one side of a client's connection sent, and prints or counts the results.
@@ -70,21 +81,21 @@ impl<'a, 'f, 's, W: Sink, C: Clock> Printer<'a, 'f, 's, W, C> {
         side: Side,
         piece: &[u8],
     ) {
-        let now = self.timing.now(self.clock);
+        let now = self.now();
         let Some(writer) = &mut self.writer else {
             return;
         };
         let printed = match (watcher, now, &mut self.stats) {
             (Watcher::Printed(tap), _, _) => {
-                watch_filtered(tap, printing, side, piece, now, *writer)
+                watch(tap, &mut (), Given { printing, now }, side, piece, *writer)
             }
             (Watcher::Json(tap), Some(now), _) => {
-                watch_json(tap, printing.client, side, piece, now, *writer)
+                watch(tap, &mut (), Given { printing, now }, side, piece, *writer)
             }
             (Watcher::Counted(tap), Some(now), Some(stats)) => {
                 stats.note(now.steady);
                 let counts = &mut stats.counts;
-                watch_counted(tap, counts, printing, side, piece, now, *writer)
+                watch(tap, counts, Given { printing, now }, side, piece, *writer)
             }
             _ => Ok(()),
         };
@@ -161,7 +172,7 @@ impl<'a, 'f, 's, W: Sink, C: Clock> Printer<'a, 'f, 's, W, C> {
 
     /// Prints the table of the counts.
     pub(crate) fn print_table(&mut self, alloc: Global) {
-        let Some(now) = self.timing.now(self.clock) else {
+        let Some(now) = self.now() else {
             return;
         };
         let Some(stats) = &mut self.stats else {
@@ -177,7 +188,7 @@ impl<'a, 'f, 's, W: Sink, C: Clock> Printer<'a, 'f, 's, W, C> {
 
     /// Returns the stamp of a line that is printed now.
     fn stamp(&mut self) -> Option<Stamp> {
-        match self.timing.now(self.clock) {
+        match self.now() {
             Some(now) => Some(Stamp::new(now)),
             None => None,
         }

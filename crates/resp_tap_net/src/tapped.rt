@@ -251,14 +251,18 @@ impl Tapped {
             Side::Client => self.to_server.visit(client, server, may_end, buffer),
             Side::Server => self.to_client.visit(server, client, may_end, buffer),
         };
-        let (clock, end) = (printer.clock(), end_of(side));
+        if forwarded.count == 0 && !forwarded.has_ended {
+            return forwarded.progress;
+        }
+        // The records and the lines have the same time.
+        let (clock, end) = (printer.look(), end_of(side));
         let piece = &buffer[..buffer.len().min(forwarded.count)];
         if !piece.is_empty() {
-            recording.add(clock, &mut self.recorded, end, SegmentKind::Bytes, piece);
+            recording.add(&clock, &mut self.recorded, end, SegmentKind::Bytes, piece);
             printer.print(&mut self.watcher, self.printing, side, piece);
         }
         if forwarded.has_ended {
-            recording.add(clock, &mut self.recorded, end, SegmentKind::End, b"");
+            recording.add(&clock, &mut self.recorded, end, SegmentKind::End, b"");
         }
         // The end of a side is printed if the other side has not ended before.
         if forwarded.has_ended && is_first {

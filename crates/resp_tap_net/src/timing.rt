@@ -3,6 +3,7 @@
 use resp_tap::Moment;
 use std::io;
 use std::rt::Clock;
+use std::time::Duration;
 
 /// Reads the clocks when pieces arrive, if times are printed.
 #[derive(Clone, Copy)]
@@ -43,6 +44,37 @@ impl Timing {
             }
         }
         self.last
+    }
+}
+
+/// The clock of the traffic that is printed: it shows the moment that is printed. If no times are
+/// printed, it shows the time of the system.
+#[derive(Clone, Copy)]
+pub(crate) struct TrafficClock<'a, C> {
+    clock: &'a C,
+    seen: Option<Moment>,
+}
+
+impl<'a, C: Clock> TrafficClock<'a, C> {
+    /// Returns a clock that shows `seen`, or what `clock` shows if there is no moment.
+    pub(crate) fn new(clock: &'a C, seen: Option<Moment>) -> Self {
+        TrafficClock { clock, seen }
+    }
+}
+
+impl<'a, C: Clock> Clock for TrafficClock<'a, C> {
+    fn monotonic(&self) -> io::Result<Duration> {
+        match self.seen {
+            Some(seen) => Ok(Duration::from_micros(seen.steady)),
+            None => self.clock.monotonic(),
+        }
+    }
+
+    fn since_1970(&self) -> io::Result<Duration> {
+        match self.seen {
+            Some(seen) => Ok(Duration::from_micros(seen.utc.micros)),
+            None => self.clock.since_1970(),
+        }
     }
 }
 

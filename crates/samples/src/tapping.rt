@@ -2,9 +2,7 @@
 
 use anyhow::Result;
 use resp_io::MemorySink;
-use resp_tap::filtered::watch_filtered;
-use resp_tap::json_tap::watch_json;
-use resp_tap::watch::{Side, watch};
+use resp_tap::watch::{Given, Side, watch};
 use resp_tap::{Filter, FilteredTap, JsonTap, Moment, Printing, Seen, ShownPart, Tap};
 use resp_value::Limits;
 use std::alloc::Global;
@@ -51,9 +49,13 @@ fn print_traffic(rt: &impl Print, alloc: Global) -> Result<()> {
         client: 1,
         shows_passwords: false,
     };
+    let given = Given {
+        printing,
+        now: None,
+    };
     let get = b"*2\r\n$3\r\nGET\r\n$4\r\nhits\r\n";
-    watch(&mut tap, printing, Side::Client, get, None, &mut text)?;
-    watch(&mut tap, printing, Side::Server, b":7\r\n", None, &mut text)?;
+    watch(&mut tap, &mut (), given, Side::Client, get, &mut text)?;
+    watch(&mut tap, &mut (), given, Side::Server, b":7\r\n", &mut text)?;
     print!(rt; "{}", str::from_utf8(text.bytes())?)?;
     Ok(())
 }
@@ -62,16 +64,20 @@ fn print_errors(rt: &impl Print, alloc: Global) -> Result<()> {
     let mut filter = Filter::all(alloc);
     filter.errors = true;
     println!(rt; "{}", filter.is_by_reply())?;
-    let mut tap = FilteredTap::new(alloc, &Limits::standard(), ShownPart::all(), filter);
     let mut text = MemorySink::new(alloc, 4_096, 4_096)?;
     let printing = Printing {
         client: 1,
         shows_passwords: false,
     };
+    let given = Given {
+        printing,
+        now: None,
+    };
+    let mut tap = FilteredTap::new(alloc, &Limits::standard(), ShownPart::all(), filter);
     let sent = b"*1\r\n$4\r\nPING\r\n*2\r\n$4\r\nINCR\r\n$1\r\na\r\n";
-    watch_filtered(&mut tap, printing, Side::Client, sent, None, &mut text)?;
+    watch(&mut tap, &mut (), given, Side::Client, sent, &mut text)?;
     let heard = b"+PONG\r\n-WRONGTYPE not a number\r\n";
-    watch_filtered(&mut tap, printing, Side::Server, heard, None, &mut text)?;
+    watch(&mut tap, &mut (), given, Side::Server, heard, &mut text)?;
     print!(rt; "{}", str::from_utf8(text.bytes())?)?;
     Ok(())
 }
@@ -81,17 +87,30 @@ fn print_json(rt: &impl Print, alloc: Global) -> Result<()> {
     let sent = Moment::new(start, Duration::from_secs(5), false);
     let later = start.saturating_add(Duration::from_micros(120));
     let heard = Moment::new(later, Duration::from_micros(5_000_120), false);
-    let mut tap = JsonTap::new(alloc, &Limits::standard(), Filter::all(alloc));
     let mut text = MemorySink::new(alloc, 4_096, 4_096)?;
-    watch_json(
+    let printing = Printing {
+        client: 1,
+        shows_passwords: false,
+    };
+    let mut tap = JsonTap::new(alloc, &Limits::standard(), Filter::all(alloc));
+    let ping = b"*1\r\n$4\r\nPING\r\n";
+    let given = Given {
+        printing,
+        now: sent,
+    };
+    watch(&mut tap, &mut (), given, Side::Client, ping, &mut text)?;
+    let given = Given {
+        printing,
+        now: heard,
+    };
+    watch(
         &mut tap,
-        1,
-        Side::Client,
-        b"*1\r\n$4\r\nPING\r\n",
-        sent,
+        &mut (),
+        given,
+        Side::Server,
+        b"-ERR no\r\n",
         &mut text,
     )?;
-    watch_json(&mut tap, 1, Side::Server, b"-ERR no\r\n", heard, &mut text)?;
     print!(rt; "{}", str::from_utf8(text.bytes())?)?;
     Ok(())
 }

@@ -3,7 +3,8 @@
 
 use crate::outcome::Outcome;
 use resp_board::{
-    Board, Bounds, ClientId, Desk, DeskError, LineId, OpenError, Queue, ReplyError, Ticket,
+    Board, Bounds, ClientId, Desk, DeskError, LineId, OpenError, OwnError, Queue, ReplyError,
+    Ticket,
 };
 use std::alloc::Global;
 
@@ -140,6 +141,38 @@ pub(crate) fn of_board_ask(alloc: Global) -> Outcome {
         }
     }
     Outcome::of(board.waiting(line) == 9)
+}
+
+/// An answer of the proxy itself waits behind a command of its client.
+pub(crate) fn of_board_own(alloc: Global) -> Outcome {
+    let mut board = Board::new(alloc, Bounds::standard());
+    let (Ok(who), Ok(line)) = (board.open(), board.open_line()) else {
+        return Outcome::OutOfMemory;
+    };
+    if board.ask(who, line, b"command;").is_err() {
+        return Outcome::OutOfMemory;
+    }
+    for text in [b"=1;".as_slice(), b"=2;"] {
+        let before = board.waiting_of(who);
+        match board.own(who, text) {
+            Ok(()) => {}
+            Err(OwnError::OutOfMemory) => {
+                let stands = board.waiting_of(who) == before && has(&board, who, b"");
+                return Outcome::refused(stands && board.own(who, text).is_ok());
+            }
+            Err(_) => return Outcome::Wrong,
+        }
+    }
+    board.sent(line, 1);
+    match board.reply(line, b"+1;") {
+        Ok(owner) => Outcome::of(owner == who && has(&board, who, b"+1;=1;=2;")),
+        Err(_) => Outcome::refused(has(&board, who, b"")),
+    }
+}
+
+/// Returns whether these bytes wait for a client.
+fn has(board: &Board, who: ClientId, bytes: &[u8]) -> bool {
+    board.to_client(who) == Some(bytes)
 }
 
 /// A command has a reply, and a reply of the proxy itself follows it.

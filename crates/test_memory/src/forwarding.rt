@@ -5,10 +5,7 @@ use crate::outcome::Outcome;
 use resp_io::{MemorySink, MemorySource};
 use resp_net::way::{Visited, Way};
 use resp_stats::{Counts, table_of};
-use resp_tap::counted::watch_counted;
-use resp_tap::filtered::watch_filtered;
-use resp_tap::json_tap::watch_json;
-use resp_tap::watch::Side;
+use resp_tap::watch::{Given, Side, watch};
 use resp_tap::{CountedTap, Filter, FilteredTap, JsonTap, Moment, Printing, ShownPart};
 use resp_value::Limits;
 use std::alloc::{AllocError, Global};
@@ -76,7 +73,11 @@ pub(crate) fn of_filtered_tap(alloc: Global) -> Outcome {
         (Side::Client, b"*1\r\n$1\r\na\r\n".as_slice()),
         (Side::Server, b"-E\r\n".as_slice()),
     ] {
-        if watch_filtered(&mut tap, printing, side, piece, None, &mut text).is_err() {
+        let given = Given {
+            printing,
+            now: None,
+        };
+        if watch(&mut tap, &mut (), given, side, piece, &mut text).is_err() {
             return Outcome::Wrong;
         }
     }
@@ -108,7 +109,11 @@ pub(crate) fn of_long_reply(alloc: Global) -> Outcome {
         (Side::Server, b"*2\r\n$20\r\nabcdefghij".as_slice()),
         (Side::Server, b"klmnopqrst\r\n$1\r\nc\r\n".as_slice()),
     ] {
-        if watch_filtered(&mut tap, printing, side, piece, None, &mut text).is_err() {
+        let given = Given {
+            printing,
+            now: None,
+        };
+        if watch(&mut tap, &mut (), given, side, piece, &mut text).is_err() {
             return Outcome::Wrong;
         }
     }
@@ -123,6 +128,10 @@ pub(crate) fn of_long_reply(alloc: Global) -> Outcome {
 /// A command and its reply that are printed as JSON, the reply with the name of the command.
 pub(crate) fn of_json_tap(alloc: Global) -> Outcome {
     let now = Moment::new(Duration::ZERO, Duration::ZERO, false);
+    let printing = Printing {
+        client: 1,
+        shows_passwords: false,
+    };
     let mut tap = JsonTap::new(alloc, &Limits::standard(), Filter::all(alloc));
     let Ok(mut text) = MemorySink::new(alloc, 4_096, 4_096) else {
         return Outcome::OutOfMemory;
@@ -131,7 +140,8 @@ pub(crate) fn of_json_tap(alloc: Global) -> Outcome {
         (Side::Client, b"*1\r\n$1\r\na\r\n".as_slice()),
         (Side::Server, b"-E\r\n".as_slice()),
     ] {
-        if watch_json(&mut tap, 1, side, piece, now, &mut text).is_err() {
+        let given = Given { printing, now };
+        if watch(&mut tap, &mut (), given, side, piece, &mut text).is_err() {
             return Outcome::Wrong;
         }
     }
@@ -185,6 +195,7 @@ fn count_piece(
     };
     let now = Moment::new(Duration::ZERO, Duration::ZERO, false);
     let mut text = MemorySink::new(alloc, 4_096, 4_096)?;
-    let watched = watch_counted(tap, counts, printing, side, piece, now, &mut text);
+    let given = Given { printing, now };
+    let watched = watch(tap, counts, given, side, piece, &mut text);
     Ok(watched.is_ok())
 }

@@ -17,7 +17,6 @@ mod frames;
 mod framing;
 mod given;
 mod hosting;
-mod multiplexing;
 mod outcome;
 mod pipelining;
 mod proxying;
@@ -103,7 +102,7 @@ fn parts_of_values(alloc: Global) -> [Part; 27] {
 }
 
 /// Runs the parts of the programs that serve or forward, and returns their outcomes in order.
-fn parts_of_connections(alloc: Global) -> [Part; 44] {
+fn parts_of_connections(alloc: Global) -> [Part; 40] {
     [
         ("databases new", hosting::of_new(alloc)),
         ("databases lines", hosting::of_lines(alloc)),
@@ -120,16 +119,12 @@ fn parts_of_connections(alloc: Global) -> [Part; 44] {
         ("queue release", board::of_queue_release(alloc)),
         ("board open", board::of_board_open(alloc)),
         ("board ask", board::of_board_ask(alloc)),
+        ("board own", board::of_board_own(alloc)),
         ("board reply", board::of_board_reply(alloc)),
         ("board lose", board::of_board_lose(alloc)),
         ("board release", board::of_board_release(alloc)),
-        ("mux open", multiplexing::of_open(alloc)),
-        ("mux forward", multiplexing::of_forward(alloc)),
-        ("mux own", multiplexing::of_own(alloc)),
-        ("mux answer", multiplexing::of_answer(alloc)),
-        ("mux lose", multiplexing::of_lose(alloc)),
         ("frames", frames::of_next(alloc)),
-        ("take reply", frames::of_join(alloc)),
+        ("take reply", proxying::of_reply(alloc)),
         ("way", forwarding::of_way(alloc)),
         ("filtered tap", forwarding::of_filtered_tap(alloc)),
         ("tap of a long reply", forwarding::of_long_reply(alloc)),

@@ -2,8 +2,9 @@
 //! closed, and the other clients go on.
 
 use crate::outcome::Outcome;
+use resp_board::OpenError;
+use resp_frames::FrameError;
 use resp_io::MemorySink;
-use resp_mux::OpenError;
 use resp_proxy::{Client, ClientError, Proxy, ServerError, Setting, Settings, next_wish};
 use std::alloc::{AllocError, Global};
 
@@ -271,4 +272,30 @@ pub(crate) fn of_probe(alloc: Global) -> Outcome {
         // The reply is lost with its connection.
         Err(_) => Outcome::refused(!refused && proxy.lose().is_ok() && proxy.waiting() == 0),
     }
+}
+
+/// A reply in three pieces, with the beginning of the next. After a failed allocation nobody has the
+/// reply, and the command still waits.
+pub(crate) fn of_reply(alloc: Global) -> Outcome {
+    let Ok((mut proxy, mut first, _)) = two_clients(alloc) else {
+        return Outcome::OutOfMemory;
+    };
+    let Ok(mut sink) = MemorySink::new(alloc, 100, 100) else {
+        return Outcome::OutOfMemory;
+    };
+    if proxy.from_client(&mut first, PING).is_err() {
+        return Outcome::refused(proxy.unsent() == 0 && proxy.waiting() == 0);
+    }
+    let _ = proxy.send(&mut sink);
+    for piece in [b"$20\r\n01".as_slice(), b"2345678901234567", b"89\r\n"] {
+        match proxy.from_server(piece) {
+            Ok(()) => {}
+            Err(ServerError::Frame(FrameError::OutOfMemory) | ServerError::OutOfMemory) => {
+                let stands = proxy.waiting() == 1 && proxy.unread(&first) == 0;
+                return Outcome::refused(stands && proxy.lose().is_ok());
+            }
+            Err(_) => return Outcome::Wrong,
+        }
+    }
+    Outcome::of(proxy.waiting() == 0 && proxy.unread(&first) == 27)
 }

@@ -6,12 +6,10 @@ use crate::subject::Subject;
 use crate::text::bytes;
 use anyhow::{Result, bail};
 use resp_stats::{Counts, table_of};
-use resp_tap::counted::watch_counted;
 use resp_tap::end::write_end;
-use resp_tap::filtered::watch_filtered;
 use resp_tap::screen::Screen;
 use resp_tap::stamp::Stamp;
-use resp_tap::watch::Side;
+use resp_tap::watch::{Given, Side, watch};
 use resp_tap::{CountedTap, Filter, FilteredTap, Moment, Printing, ShownPart, Utc};
 use resp_value::Limits;
 use std::alloc::Global;
@@ -237,11 +235,20 @@ impl Tapping {
         for piece in pieces(alloc, text.as_slice(), cut)? {
             match &mut self.watching {
                 Some(Watching::Printed(tap)) => {
-                    watch_filtered(tap, printing, side, piece, self.now, &mut screen)?;
+                    let now = self.now;
+                    let given = Given { printing, now };
+                    watch(tap, &mut (), given, side, piece, &mut screen)?;
                 }
                 Some(Watching::Counted(tap, counts)) => {
                     let now = self.now.unwrap_or(start);
-                    watch_counted(tap, counts, printing, side, piece, now, &mut screen)?;
+                    watch(
+                        tap,
+                        counts,
+                        Given { printing, now },
+                        side,
+                        piece,
+                        &mut screen,
+                    )?;
                 }
                 None => bail!("no tap"),
             }

@@ -164,6 +164,33 @@ class Parser(_Replies):
                 return handled
 
 
+class _Within:
+    """Limits the time of a block as `asyncio.timeout` does. That of Python 3.11.2 fails in a task that was cancelled before and
+    caught it, as `async_timeout` does when it expires: it raises CancelledError in place of TimeoutError."""
+
+    def __init__(self, seconds):
+        self._seconds = seconds
+        self._timer = None
+        self._has_expired = False
+
+    async def __aenter__(self):
+        self._task = asyncio.current_task()
+        self._cancelled_before = self._task.cancelling()
+        loop = asyncio.get_running_loop()
+        if self._seconds is not None:
+            self._timer = loop.call_later(self._seconds, self._expire)
+
+    def _expire(self):
+        self._has_expired = True
+        self._task.cancel()
+
+    async def __aexit__(self, kind, error, _):
+        if self._timer:
+            self._timer.cancel()
+        if self._has_expired and self._task.uncancel() <= self._cancelled_before and kind is asyncio.CancelledError:
+            raise asyncio.TimeoutError from error
+
+
 class AsyncParser(_Replies):
     """Reads the replies of a connection of redis.asyncio.Redis."""
 
@@ -194,7 +221,7 @@ class AsyncParser(_Replies):
     async def _receive(self, timeout, raises=True):
         """Receives a piece. Returns False if none arrives in time, unless that raises an error."""
         try:
-            async with asyncio.timeout(timeout):
+            async with _Within(timeout):
                 piece = await self._stream.read(self._read_size)
         except asyncio.TimeoutError as error:
             if raises:

@@ -3,9 +3,8 @@
 use super::check_equal;
 use resp_io::device::MemorySink;
 use resp_stats::Counts;
-use resp_tap::counted::{CountedTap, watch_counted};
-use resp_tap::watch::Side;
-use resp_tap::{Filter, Moment, Printing};
+use resp_tap::watch::{Given, Side, watch};
+use resp_tap::{CountedTap, Filter, Moment, Printing};
 use resp_value::limits::Limits;
 use std::alloc::Global;
 use std::time::Duration;
@@ -29,8 +28,8 @@ fn counted(alloc: Global) -> Option<Counts> {
             (Side::Client, command.as_str().as_bytes()),
             (Side::Server, b"+OK\r\n".as_slice()),
         ] {
-            let out = &mut text;
-            watch_counted(&mut tap, &mut counts, printing, side, piece, now, out).ok()?;
+            let given = Given { printing, now };
+            watch(&mut tap, &mut counts, given, side, piece, &mut text).ok()?;
         }
     }
     Some(counts)

@@ -16,8 +16,8 @@ returns-in-Some-strip_suffix c =
     let is_front = stripped line digits c.strip_suffix-in-Some.result c.in-Some-strip_suffix.front
     (strip_suffix_is Decides-eqb line digits c.strip_suffix-in-Some.result c.strip_suffix-in-Some.ensures.cases) c.in-Some-strip_suffix.is in
     let are = c.as_bytes-digits.ensures.value ∙ c.format.ensures.text in (
-      λ e. record { front = front; has_mark = c.ends_with_mark.ensures.0 e; whole = length_split head line front digits size is_line are is_front },
-      λ w. c.ends_with_mark.ensures.1 (mark_of_length head line front digits size is_line are is_front w),
+      λ e. record { front = front; has_mark = c.ends_with_any.ensures.0 e; whole = length_split head line front digits size is_line are is_front },
+      λ w. c.ends_with_any.ensures.1 (mark_of_length head line front digits size is_line are is_front w),
     )
 
 pub returns-in-None-strip_suffix : goal.returns-in-None-strip_suffix

@@ -1,36 +1,37 @@
 use Rattle.std.proofs.Common.{OnOk, refl, subst}
 use Rattle.resp_frames.specs.Texts.{text_of}
-use Rattle.resp_mux.specs.Multiplexing.{HasPassed, WherePassed}
-use Rattle.resp_mux.specs.Passing.{with_command}
+use Rattle.resp_board.specs.Boards.{Ask}
+use Rattle.resp_board.specs.Histories.{with_event}
+use Rattle.resp_board.specs.Runs.{HasRun, WhereRun}
 use Rattle.resp_proxy.proofs.Carryings.{carried-admitted, carried-own, carried-shared}
 use Rattle.resp_proxy.specs.Unfinished.{terms_of}
 use Rattle.resp_proxy.proofs.carrying.answer_or_send.Goals as goal
 
 pub returns-in-Ok-Some-clause-carried : goal.returns-in-Ok-Some-clause-carried
 returns-in-Ok-Some-clause-carried c front piece f =
-    carried-own c.own.result (terms_of c.args.intake.now) c.args.who c.deref.result.now front piece c.args.command.now c.args.mux.now c.own.new.mux f
-    c.own.ensures.passed
+    carried-own c.own.result (terms_of c.args.intake.now) c.args.route c.deref.result.now front piece c.args.command.now c.args.board.now c.own.new.board f
+    c.own.ensures.run
 
 pub returns-in-Ok-None-clause-carried : goal.returns-in-Ok-None-clause-carried
 returns-in-Ok-None-clause-carried c front piece f =
-    carried-shared c.forward.result (terms_of c.args.intake.now) c.args.who front piece c.args.command.now c.args.mux.now c.forward.new.mux f
+    carried-shared c.forward.result (terms_of c.args.intake.now) c.args.route front piece c.args.command.now c.args.board.now c.forward.new.board f
     (c.if-is_shared.ensures refl)
-    (subst (λ text. OnOk c.forward.result (WherePassed c.args.mux.now (λ p. HasPassed c.forward.new.mux (with_command c.args.who text p)))) c.text.ensures
-    c.forward.ensures.passed)
+    (subst (λ text. OnOk c.forward.result (WhereRun c.args.board.now (λ p. HasRun c.forward.new.board (with_event (Ask c.args.route.client c.args.route.line.place text) p)))) c.text.ensures
+    c.forward.ensures.run)
 
 pub returns-then-admits-clause-carried : goal.returns-then-admits-clause-carried
 returns-then-admits-clause-carried c front piece f =
     let sent = c.forward-then-admits in
-    carried-admitted c.no_spelling_begins_another.ensures sent.result (terms_of c.args.intake.now) c.args.who front piece c.args.command.now c.args.mux.now
-    sent.new.mux f (c.if-admits.ensures refl)
-    (subst (λ text. OnOk sent.result (WherePassed c.args.mux.now (λ p. HasPassed sent.new.mux (with_command c.args.who text p)))) c.text-then-admits.ensures
-    sent.ensures.passed)
+    carried-admitted c.no_spelling_begins_another.ensures sent.result (terms_of c.args.intake.now) c.args.route front piece c.args.command.now c.args.board.now
+    sent.new.board f (c.if-admits.ensures refl)
+    (subst (λ text. OnOk sent.result (WhereRun c.args.board.now (λ p. HasRun sent.new.board (with_event (Ask c.args.route.client c.args.route.line.place text) p)))) c.text-then-admits.ensures
+    sent.ensures.run)
 
 pub returns-in-Ok-Reply-clause-carried : goal.returns-in-Ok-Reply-clause-carried
 returns-in-Ok-Reply-clause-carried c front piece f =
     let own = c.own-in-Ok-Reply in
-    carried-own own.result (terms_of c.args.intake.now) c.args.who c.deref-in-Ok-Reply.result.now front piece c.args.command.now c.args.mux.now own.new.mux f
-    own.ensures.passed
+    carried-own own.result (terms_of c.args.intake.now) c.args.route c.deref-in-Ok-Reply.result.now front piece c.args.command.now c.args.board.now own.new.board f
+    own.ensures.run
 
 pub returns-in-Ok-Some-clause-refused : goal.returns-in-Ok-Some-clause-refused
 returns-in-Ok-Some-clause-refused c = c.own.ensures.refused c.args.intake.now.frames.limits (text_of c.args.command.now.frame)

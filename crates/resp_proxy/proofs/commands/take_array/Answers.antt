@@ -19,20 +19,20 @@ pub returns-in-Ok-carry_out-clause-taken : goal.returns-in-Ok-carry_out-clause-t
 returns-in-Ok-carry_out-clause-taken c ready front h =
     let i = c.args.intake.now in
     let piece = c.args.piece.now in
-    let who = c.args.who in
+    let route = c.args.route in
     let begun = c.next_request.new.begun in
     let command = c.in-Some-Command.command in
-    let old = c.args.mux.now in
-    let new = c.carry_out.new.mux in
+    let old = c.args.board.now in
+    let new = c.carry_out.new.board in
     let is : c.in-Ok.found ≡ Some (Command command) = grind arith in
     let whole = subst (λ o. IfSome o (λ request. IsRequest (frame_limits i.frames) front piece request × HasBegun (frame_rules i.frames) begun [])) is
     (c.in-Ok.ensures.whole ready front h) in
     let carries = subst (λ rules. (front piece : List ℕ) → IsFrameOfWords rules.limits front piece command →
-    Carries (record { rules = rules; lines = i.lines; admitted = texts_of i.admitted.items }) who (text_of command.frame) old new) c.in-Ok.ensures.same_rules
+    Carries (record { rules = rules; lines = i.lines; admitted = texts_of i.admitted.items }) route (text_of command.frame) old new) c.in-Ok.ensures.same_rules
     c.in-Ok-carry_out.ensures.carried in (
       whole.1,
-      subst (λ n. TakesPart (terms_of i) who (front ++ take n piece) old new) (sym c.used-used.ensures)
-          (array-part (terms_of i) who front piece command old new whole.0 (carries front piece whole.0)),
+      subst (λ n. TakesPart (terms_of i) route (front ++ take n piece) old new) (sym c.used-used.ensures)
+          (array-part (terms_of i) route front piece command old new whole.0 (carries front piece whole.0)),
     )
 
 pub returns-in-Err-clause-refused : goal.returns-in-Err-clause-refused
@@ -56,18 +56,18 @@ pub returns-then-sets_aside-clause-taken : goal.returns-then-sets_aside-clause-t
 returns-then-sets_aside-clause-taken c ready front h =
     let i = c.args.intake.now in
     let piece = c.args.piece.now in
-    let who = c.args.who in
+    let route = c.args.route in
     let begun = c.next_request.new.begun in
     let command = c.in-Some-Command.command in
-    let m = c.args.mux.now in
+    let m = c.args.board.now in
     let is : c.in-Ok.found ≡ Some (Command command) = grind arith in
     let whole = subst (λ o. IfSome o (λ request. IsRequest (frame_limits i.frames) front piece request × HasBegun (frame_rules i.frames) begun [])) is
     (c.in-Ok.ensures.whole ready front h) in
     elim c.match-to_vec.branch [
-      | in-Ok-to_vec w ↦ subst (λ r. IfOk r (λ part. TakesArray (terms_of i) who front piece begun part m m)) (sym w.result-is) (
+      | in-Ok-to_vec w ↦ subst (λ r. IfOk r (λ part. TakesArray (terms_of i) route front piece begun part m m)) (sym w.result-is) (
         whole.1,
         subst (λ n. SetsAside (terms_of i) (front ++ take n piece) w.in-Ok-to_vec.text.items m m) (sym c.used-used.ensures)
             (array-aside (terms_of i) front piece w.in-Ok-to_vec.text.items command m whole.0 (c.if-sets_aside.ensures.needed refl) (grind arith)),
       )
-      | in-Err-to_vec w ↦ subst (λ r. IfOk r (λ part. TakesArray (terms_of i) who front piece begun part m m)) (sym w.result-is) tt
+      | in-Err-to_vec w ↦ subst (λ r. IfOk r (λ part. TakesArray (terms_of i) route front piece begun part m m)) (sym w.result-is) tt
     ]

@@ -16,7 +16,7 @@ pub returns-in-Some-clause-carried : goal.returns-in-Some-clause-carried
 returns-in-Some-clause-carried c is =
     let text = c.args.text.now in
     let found = subst (λ limits. IsFrameOfWords limits [] text c.in-Some.command) c.limits.ensures c.in-Some.ensures.command in
-    subst (λ t. OnOk c.carry_out.result (Carries (terms_of c.args.intake.now) c.args.who t c.args.mux.now c.carry_out.new.mux))
+    subst (λ t. OnOk c.carry_out.result (Carries (terms_of c.args.intake.now) c.args.route t c.args.board.now c.carry_out.new.board))
     (whole-command c.no_spelling_begins_another.ensures c.args.intake.now.frames.limits text c.in-Some.command is found)
     (c.carry_out.ensures.carried [] text found)
 

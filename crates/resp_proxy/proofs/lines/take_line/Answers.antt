@@ -19,8 +19,8 @@ returns-in-Ok-carry_out_text-clause-taken c lines on =
     let (none, line) = subst (ReadsLine limits front piece c.next_inline.new.line.items) c.in-Ok-Some.field-0-is read in
     let is = subst (IsArrayOf limits line.content) (sym c.as_slice-2.ensures) (subst (HasText limits line.content) c.in-Some.is line.has) in (
       none,
-      line-part c.no_spelling_begins_another.ensures terms c.args.who line.content (front ++ take c.in-Ok-Some.command.used piece) array c.args.mux.now
-          c.carry_out_text.new.mux lines line.line is (c.in-Ok-carry_out_text.ensures.carried (line-command limits line.content array is)),
+      line-part c.no_spelling_begins_another.ensures terms c.args.route line.content (front ++ take c.in-Ok-Some.command.used piece) array c.args.board.now
+          c.carry_out_text.new.board lines line.line is (c.in-Ok-carry_out_text.ensures.carried (line-command limits line.content array is)),
     )
 
 pub returns-clause-refused : goal.returns-clause-refused
@@ -42,8 +42,8 @@ returns-then-needs_own_text-clause-taken c lines on =
     let limits = terms.rules.limits in
     let front = c.args.line.now.items in
     let piece = c.args.piece.now in
-    let who = c.args.who in
-    let m = c.args.mux.now in
+    let route = c.args.route in
+    let m = c.args.board.now in
     let left = c.next_inline.new.line.items in
     let text = front ++ take c.in-Ok-Some.command.used piece in
     let array = c.as_slice.result.now in
@@ -54,9 +54,9 @@ returns-then-needs_own_text-clause-taken c lines on =
     let needs = line-needs-own c.no_spelling_begins_another.ensures terms line.content text array lines line.line is
     (c.if-needs_own_text.ensures.needed (line-command limits line.content array is) refl) in
     elim c.match-with_end.branch [
-      | in-Ok w ↦ subst (λ r. IfOk r (λ part. TakesLine terms who front piece left part m m)) (sym w.result-is) (
+      | in-Ok w ↦ subst (λ r. IfOk r (λ part. TakesLine terms route front piece left part m m)) (sym w.result-is) (
         none,
         record { same = w.in-Ok.ensures ∙ sym ends; needs = needs; kept = λ p h. h },
       )
-      | in-Err-with_end w ↦ subst (λ r. IfOk r (λ part. TakesLine terms who front piece left part m m)) (sym w.result-is) tt
+      | in-Err-with_end w ↦ subst (λ r. IfOk r (λ part. TakesLine terms route front piece left part m m)) (sym w.result-is) tt
     ]

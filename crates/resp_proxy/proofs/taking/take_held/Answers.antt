@@ -6,15 +6,15 @@ use Rattle.resp_proxy.proofs.taking.take_held.Goals as goal
 
 pub returns-then-client-clause-taken : goal.returns-then-client-clause-taken
 returns-then-client-clause-taken c ready held h =
-    nothing-taken (terms_of c.args.intake.now) c.args.client.now.id (held ++ c.args.piece.now) c.args.client.now error.Closing c.args.mux.now tt
+    nothing-taken (terms_of c.args.intake.now) c.args.client.now.route (held ++ c.args.piece.now) c.args.client.now error.Closing c.args.board.now tt
 
 pub returns-then-is_none-clause-taken : goal.returns-then-is_none-clause-taken
 returns-then-is_none-clause-taken c ready held h =
-    nothing-taken (terms_of c.args.intake.now) c.args.client.now.id (held ++ c.args.piece.now) c.args.client.now error.NoClient c.args.mux.now tt
+    nothing-taken (terms_of c.args.intake.now) c.args.client.now.route (held ++ c.args.piece.now) c.args.client.now error.NoClient c.args.board.now tt
 
 pub returns-then-client-2-clause-taken : goal.returns-then-client-2-clause-taken
 returns-then-client-2-clause-taken c ready held h =
-    more-held c.keep.result (terms_of c.args.intake.now) c.args.client.now c.keep.new.client c.args.client.now.id held c.args.piece.now c.args.mux.now
+    more-held c.keep.result (terms_of c.args.intake.now) c.args.client.now c.keep.new.client c.args.client.now.route held c.args.piece.now c.args.board.now
     c.keep.ensures.kept c.keep.ensures.memory c.keep.ensures.same_unfinished h
 
 pub returns-then-client-2-clause-leaves : goal.returns-then-client-2-clause-leaves

@@ -6,14 +6,14 @@ use Rattle.resp_proxy.proofs.taking.take_rest.Goals as goal
 
 pub returns-in-Err-clause-taken : goal.returns-in-Err-clause-taken
 returns-in-Err-clause-taken c ready held h =
-    nothing-taken (terms_of c.args.intake.now) c.args.client.now.id (held ++ c.args.piece.now) c.keep.new.client c.in-Err.error c.args.mux.now
+    nothing-taken (terms_of c.args.intake.now) c.args.client.now.route (held ++ c.args.piece.now) c.keep.new.client c.in-Err.error c.args.board.now
     (memory-refused (terms_of c.args.intake.now) (held ++ c.args.piece.now) c.in-Err.error c.in-Err.ensures.memory)
 
 pub returns-in-Err-end-clause-taken : goal.returns-in-Err-end-clause-taken
 returns-in-Err-end-clause-taken c ready held h =
     let taken = c.take_commands-taken in
     rest-taken c.args.intake.now c.args.client.now c.keep.new.client c.remove.new.client c.remove.new.client held c.args.piece.now c.as_slice.result.now
-    taken.result.used taken.new.unfinished _ taken.result.end (Err c.in-Err-end.error) c.args.mux.now taken.new.mux
+    taken.result.used taken.new.unfinished _ taken.result.end (Err c.in-Err-end.error) c.args.board.now taken.new.board
     (c.as_slice.ensures ∙ c.in_default.ensures.kept) c.keep.ensures.same_unfinished c.keep.ensures.same_client ready h taken.ensures.taken
     c.remove.ensures.same_unfinished (c.remove.ensures.rest ∙ ap (drop taken.result.used) (sym c.as_slice.ensures)) (λ after left items. tt)
     (λ after refused. ended-refused taken.result.end (terms_of c.args.intake.now) c.in-Err-end.error after c.as_slice.result.now taken.result.used c.in-Err-end.is
@@ -23,7 +23,7 @@ pub returns-clause-taken : goal.returns-clause-taken
 returns-clause-taken c ready held h =
     let taken = c.take_commands-taken in
     rest-taken c.args.intake.now c.args.client.now c.keep.new.client c.remove.new.client c.put_back.new.client held c.args.piece.now c.as_slice.result.now
-    taken.result.used taken.new.unfinished _ taken.result.end c.put_back.result c.args.mux.now taken.new.mux
+    taken.result.used taken.new.unfinished _ taken.result.end c.put_back.result c.args.board.now taken.new.board
     (c.as_slice.ensures ∙ c.in_default.ensures.kept) c.keep.ensures.same_unfinished c.keep.ensures.same_client ready h taken.ensures.taken
     c.remove.ensures.same_unfinished (c.remove.ensures.rest ∙ ap (drop taken.result.used) (sym c.as_slice.ensures))
     (λ after left items. holds-put-ok taken.result.end c.put_back.result c.in_default-end.field-0 _ (terms_of c.args.intake.now) c.remove.new.client
@@ -34,6 +34,6 @@ pub returns-clause-leaves : goal.returns-clause-leaves
 returns-clause-leaves c ready held h stays =
     let taken = c.take_commands-taken in
     leaves-rest c.put_back.result taken.result.end c.in_default-end.field-0 _ c.args.intake.now c.args.client.now c.keep.new.client c.remove.new.client
-    c.put_back.new.client held (take taken.result.used c.as_slice.result.now) taken.new.unfinished c.args.mux.now taken.new.mux c.keep.ensures.same_unfinished
+    c.put_back.new.client held (take taken.result.used c.as_slice.result.now) taken.new.unfinished c.args.board.now taken.new.board c.keep.ensures.same_unfinished
     ready h c.in_default-end.is taken.ensures.taken c.remove.ensures.same_unfinished
     (c.remove.ensures.same_leaving ∙ c.keep.ensures.same_leaving ∙ stays) c.put_back.ensures.put

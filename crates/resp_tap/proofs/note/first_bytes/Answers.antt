@@ -34,4 +34,4 @@ returns-clause-whole c = λ whole are small.
     kept_whole c.args.room _ _ _ (started c whole are) (either c) (grind (arith, small))
 
 pub returns-clause-part : goal.returns-clause-part
-returns-clause-part c = λ whole are large. kept_part c.args.room _ _ _ (started c whole are) (grind (arith, large))
+returns-clause-part c = λ whole are large some. kept_part c.args.room _ _ _ (started c whole are) (grind (arith, large))

@@ -1,6 +1,7 @@
-use Rattle.std.proofs.Common.{◌⊎◌, inr}
+use Rattle.std.proofs.Common.{◌⊎◌, inr, length}
 use Rattle.std.proofs.lemmas.Result.{on_ok_weaker}
-use Rattle.resp_board.specs.Runs.{HasAnsweredSome, HasLostSome, begun_on}
+use Rattle.resp_board.specs.Runs.{HasAnsweredSome, HasLostSome, begun_on, waiting_on}
+use Rattle.resp_board.proofs.Answered.{joined-answered, of-those-that-waited}
 use Rattle.resp_board.proofs.Failing.{failed, lost-some, on-err}
 use Rattle.resp_board.proofs.Running.{open-more}
 use Rattle.resp_board.proofs.board.Board.fail.Goals as goal
@@ -27,3 +28,15 @@ returns-clause-some_answered c =
 pub returns-clause-same_open : goal.returns-clause-same_open
 returns-clause-same_open c =
     open-more c.args.self.now c.lose.new.self c.reply_to_unbegun.new.self c.lose.ensures.same_open c.reply_to_unbegun.ensures.same_open
+
+pub returns-clause-answered : goal.returns-clause-answered
+returns-clause-answered c =
+    let line = c.args.line.place in
+    let mid = c.lose.new.self in
+    joined-answered line (begun_on c.args.self.now line) (length (waiting_on mid line)) c.args.self.now mid c.reply_to_unbegun.new.self
+    c.lose.ensures.answered c.reply_to_unbegun.ensures.answered
+
+pub returns-in_err-lose-clause-answered : goal.returns-in_err-lose-clause-answered
+returns-in_err-lose-clause-answered c =
+    let line = c.args.line.place in
+    of-those-that-waited line (begun_on c.args.self.now line) c.args.self.now c.lose.new.self c.lose.ensures.answered

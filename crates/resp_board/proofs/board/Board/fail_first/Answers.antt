@@ -1,11 +1,14 @@
-use Rattle.std.proofs.Common.{◌≡◌, ◌∙◌, Some, arith, slice_get, sym}
+use Rattle.std.proofs.Common.{◌≡◌, ◌∙◌, Some, ap, arith, slice_get, sym}
+use Rattle.std.specs.Option.{option_map}
 use Rattle.resp_board.specs.Boards.{Lose}
 use Rattle.resp_board.specs.Histories.{with_event}
+use Rattle.resp_board.specs.Desks.{out_of}
 use Rattle.resp_board.specs.Rows.{tickets_in}
 use Rattle.resp_board.specs.Runs.{waiting_on}
 use Rattle.resp_board.proofs.Failing.{none-first}
 use Rattle.resp_board.proofs.Joining.{failed-first, seat-kept}
-use Rattle.resp_board.proofs.Running.{first-awaited, still}
+use Rattle.resp_board.proofs.Answered.{one-answered}
+use Rattle.resp_board.proofs.Running.{first-awaited, owner-is, still}
 use Rattle.resp_board.proofs.board.Board.fail_first.Goals as goal
 
 pub answer-requires : goal.answer-requires
@@ -47,7 +50,21 @@ returns-in_default-clause-run c =
     let none = none-first (waiting_on c.args.self.now c.args.line.place) c.first.result c.first.ensures c.in_default.not-Some in
     absurd (omega (arith, none, c.requires.some))
 
-pub returns-in_default-clause-fewer : goal.returns-in_default-clause-fewer
-returns-in_default-clause-fewer c =
+pub returns-in_default-clause-answered : goal.returns-in_default-clause-answered
+returns-in_default-clause-answered c =
     let none = none-first (waiting_on c.args.self.now c.args.line.place) c.first.result c.first.ensures c.in_default.not-Some in
     absurd (omega (arith, none, c.requires.some))
+
+pub returns-in_default-clause-rest : goal.returns-in_default-clause-rest
+returns-in_default-clause-rest c =
+    let none = none-first (waiting_on c.args.self.now c.args.line.place) c.first.result c.first.ensures c.in_default.not-Some in
+    absurd (omega (arith, none, c.requires.some))
+
+pub returns-in_ok-answer-clause-answered : goal.returns-in_ok-answer-clause-answered
+returns-in_ok-answer-clause-answered c =
+    let i = c.args.self.now in
+    let first : slice_get (tickets_in (slice_get i.lines.items c.args.line.place)) 0 ≡ Some c.in-Some.ticket = sym c.first.ensures ∙ c.in-Some.is in
+    one-answered c.args.line.place i _ c.in-Some.ticket.client
+    (owner-is (tickets_in (slice_get i.lines.items c.args.line.place)) (tickets_in (slice_get c.remove_first.new.lines.items c.args.line.place)) c.in-Some.ticket
+    first c.remove_first.ensures.rest)
+    (λ other apart. ap (option_map out_of) (c.in_ok-answer.ensures.answered.others other apart))

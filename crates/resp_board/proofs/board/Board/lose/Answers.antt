@@ -1,4 +1,5 @@
-use Rattle.std.proofs.Common.{◌≡◌, ◌∙◌, arith, subst}
+use Rattle.std.proofs.Common.{◌≡◌, ◌∙◌, List, ◌++◌, ap, arith, map, subst, sym}
+use Rattle.resp_board.specs.declared.ticket.Ticket.{Ticket}
 use Rattle.resp_board.specs.Boards.{Lose}
 use Rattle.resp_board.specs.Histories.{with_event}
 use Rattle.resp_board.specs.Joins.{Stands}
@@ -27,3 +28,14 @@ returns-clause-run c h j =
 
 pub returns-clause-none_begun : goal.returns-clause-none_begun
 returns-clause-none_begun c = c.reconnect.ensures.same_begun ∙ c.in_ok-reply_to_begun.ensures.all
+
+pub returns-clause-answered : goal.returns-clause-answered
+returns-clause-answered c =
+    let line = c.args.line.place in
+    let a = c.reply_to_begun.ensures.answered in
+    record {
+      answered = a.answered;
+      first = a.first ∙ ap (λ (ts : List Ticket). a.answered ++ map (λ (t : Ticket). t.client) ts) (sym c.reconnect.ensures.same_waiting);
+      few = a.few;
+      others = a.others;
+    }

@@ -1,4 +1,4 @@
-use Rattle.std.proofs.Common.{◌≡◌, ◌≢◌, arith, is_some, slice_get, true}
+use Rattle.std.proofs.Common.{◌≢◌, arith}
 use Rattle.std.proofs.lemmas.Grind.{common_steps}
 use Rattle.resp_board.proofs.Releasing.{lacks-none, lines-kept, release-somehow, releases}
 use Rattle.resp_board.proofs.Running.{some-row}

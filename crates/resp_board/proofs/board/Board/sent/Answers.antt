@@ -13,7 +13,7 @@ invariant_of-self c =
       run = still i.clients.slots i.clients.slots i.lines.items l i.last i.last (λ h j. (
         with_bytes c.args.line.place text h,
         sent-bytes i.clients.slots i.lines.items l i.last h c.args.line.place text
-            (none-sent (slice_get i.lines.items c.args.line.place) c.args.count) c.send.ensures j,
+            (none-sent (slice_get i.lines.items c.args.line.place) c.args.count) c.send.ensures.sent j,
       )) i.run;
     }
 
@@ -22,4 +22,4 @@ returns-clause-run c h j =
     let i = c.args.self.now in
     let text = take c.args.count (unsent_in (slice_get i.lines.items c.args.line.place)) in
     sent-bytes i.clients.slots i.lines.items c.send.new.lines.items i.last h c.args.line.place text
-    (none-sent (slice_get i.lines.items c.args.line.place) c.args.count) c.send.ensures j
+    (none-sent (slice_get i.lines.items c.args.line.place) c.args.count) c.send.ensures.sent j

@@ -2,8 +2,8 @@ use Rattle.std.proofs.Common.{refl}
 use Rattle.resp_paint.proofs.PlainLemmas.{paints_all, paints_later}
 use Rattle.resp_paint.proofs.painted.Painted.paint_byte.Goals as goal
 
-pub returns-in_default-clause-paints : goal.returns-in_default-clause-paints
-returns-in_default-clause-paints g c = paints_later _ _ _ _ c.in-Ok.ensures.ok
+pub returns-in-Later-clause-paints : goal.returns-in-Later-clause-paints
+returns-in-Later-clause-paints g c = paints_later _ _ _ _ c.in-Ok.ensures.ok
 
 pub returns-clause-paints : goal.returns-clause-paints
 returns-clause-paints g c =

@@ -1,32 +1,40 @@
-use Rattle.std.proofs.Common.{OnErr, ap, subst}
-use Rattle.std.proofs.lemmas.Result.{on_err_weaker, on_ok_weaker}
+use Rattle.std.proofs.Common.{OnErr, inl, length, subst, take}
 use Rattle.std.specs.Prelude.{OnOk}
-use Rattle.resp_mux.specs.Multiplexing.{WherePassed}
-use Rattle.resp_proxy.specs.Failing.{Fails, FailsSome}
-use Rattle.resp_proxy.specs.Proxies.{mux_of, replied_to}
-use Rattle.resp_proxy.specs.Telling.{Tells}
-use Rattle.resp_proxy.proofs.Failings.{fails-all, fails-some, tells-later}
+use Rattle.resp_board.specs.Boards.{Fail}
+use Rattle.resp_board.specs.Runs.{Runs, clients_on, waiting_on}
+use Rattle.resp_board.proofs.Failing.{on-err}
+use Rattle.resp_board.proofs.Running.{answered-none}
+use Rattle.resp_proxy.specs.Failing.{FailsSome}
+use Rattle.resp_proxy.specs.Proxies.{board_in, line_of, replied_to}
+use Rattle.resp_proxy.specs.Telling.{Covers, Tells}
+use Rattle.resp_proxy.proofs.Tellings.{tells-all, tells-nobody}
 use Rattle.resp_proxy.proofs.proxy.Proxy.fail.Goals as goal
 
-pub returns-clause-passed : goal.returns-clause-passed
-returns-clause-passed c =
-    let i = c.self.inside in
-    subst (λ m. OnOk c.lose_by.result (WherePassed m (Fails c.args.text.now m (mux_of c.lose_by.new.self)))) (ap mux_of c.self.view_is)
-    (on_ok_weaker c.lose_by.result
-    (fails-all c.args.text.now c.to_server-all.result.now i.mux c.sent.new.self (mux_of c.lose_by.new.self) c.to_server-all.ensures.waiting c.sent.ensures.passed)
-    c.lose_by.ensures.passed)
+pub returns-clause-run : goal.returns-clause-run
+returns-clause-run c = subst (λ s. OnOk c.fail.result (Runs (Fail (line_of s) c.args.text.now) (board_in s) c.fail.new.self)) c.self.view_is c.fail.ensures.run
 
 pub returns-clause-some_answered : goal.returns-clause-some_answered
 returns-clause-some_answered c =
-    let i = c.self.inside in
-    subst (λ m. OnErr c.lose_by.result (WherePassed m (FailsSome c.args.text.now m (mux_of c.lose_by.new.self)))) (ap mux_of c.self.view_is)
-    (on_err_weaker c.lose_by.result
-    (fails-some c.args.text.now c.to_server-all.result.now i.mux c.sent.new.self (mux_of c.lose_by.new.self) c.to_server-all.ensures.waiting c.sent.ensures.passed)
-    c.lose_by.ensures.some_answered)
+    subst (λ s. OnErr c.fail.result (FailsSome (line_of s) c.args.text.now (board_in s) c.fail.new.self)) c.self.view_is c.fail.ensures.some_answered
 
 pub returns-clause-told : goal.returns-clause-told
 returns-clause-told c =
     let i = c.self.inside in
-    subst (λ s. Tells (replied_to s) (replied_to c.lose_by.new.self) (mux_of s) (mux_of c.lose_by.new.self)) c.self.view_is
-    (tells-later i.replied.items (replied_to c.lose_by.new.self) i.mux c.sent.new.self (mux_of c.lose_by.new.self) c.sent.ensures.same_waiting
-    c.sent.ensures.same_bytes c.lose_by.ensures.told)
+    let queued = c.note_first.new.queued.items in
+    subst (λ s. Tells (line_of s) (replied_to s) queued (board_in s) c.fail.new.self) c.self.view_is
+    (tells-all i.line.place (length (waiting_on i.board i.line.place)) i.replied.items queued i.board c.fail.new.self c.note_first.ensures.noted
+    (subst (λ n. Covers (take n (clients_on i.board i.line.place)) queued) c.waiting-all.ensures c.in_ok-note_first.ensures.all)
+    c.fail.ensures.answered)
+
+pub returns-in_err-note_first-clause-some_answered : goal.returns-in_err-note_first-clause-some_answered
+returns-in_err-note_first-clause-some_answered c =
+    let i = c.self.inside in
+    on-err c.from_residual.result (FailsSome (line_of c.args.self.now) c.args.text.now (board_in c.args.self.now) i.board)
+    (subst (λ s. FailsSome (line_of s) c.args.text.now (board_in s) i.board) c.self.view_is (inl (answered-none i.line.place c.args.text.now i.board)))
+
+pub returns-in_err-note_first-clause-told : goal.returns-in_err-note_first-clause-told
+returns-in_err-note_first-clause-told c =
+    let i = c.self.inside in
+    let queued = c.note_first.new.queued.items in
+    subst (λ s. Tells (line_of s) (replied_to s) queued (board_in s) i.board) c.self.view_is
+    (tells-nobody i.line.place i.replied.items queued i.board c.note_first.ensures.noted)

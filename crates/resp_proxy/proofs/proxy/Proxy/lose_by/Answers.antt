@@ -1,24 +1,39 @@
-use Rattle.std.proofs.Common.{OnErr, ap, subst}
+use Rattle.std.proofs.Common.{OnErr, subst, take}
 use Rattle.std.specs.Prelude.{OnOk}
-use Rattle.resp_mux.specs.Multiplexing.{HasAnsweredSome, HasPassed, WherePassed, begun_count}
-use Rattle.resp_mux.specs.Passing.{with_loss}
-use Rattle.resp_proxy.specs.Proxies.{mux_of, replied_to}
-use Rattle.resp_proxy.specs.Telling.{Tells}
-use Rattle.resp_proxy.proofs.Tellings.{tells-all}
+use Rattle.resp_board.specs.Runs.{HasAnsweredSome, begun_on, clients_on}
+use Rattle.resp_board.proofs.Failing.{on-err}
+use Rattle.resp_board.proofs.Running.{answered-none}
+use Rattle.resp_proxy.specs.Failing.{Loses}
+use Rattle.resp_proxy.specs.Proxies.{board_in, line_of, replied_to}
+use Rattle.resp_proxy.specs.Telling.{Covers, Tells}
+use Rattle.resp_proxy.proofs.Tellings.{tells-all, tells-nobody}
 use Rattle.resp_proxy.proofs.proxy.Proxy.lose_by.Goals as goal
 
 pub returns-clause-some_answered : goal.returns-clause-some_answered
 returns-clause-some_answered c =
-    subst (λ m. OnErr c.lose.result (HasAnsweredSome c.args.text.now m c.lose.new.self)) (ap mux_of c.self.view_is) c.lose.ensures.some_answered
+    subst (λ s. OnErr c.lose.result (HasAnsweredSome (line_of s) c.args.text.now (board_in s) c.lose.new.self)) c.self.view_is c.lose.ensures.some_answered
 
-pub returns-clause-passed : goal.returns-clause-passed
-returns-clause-passed c =
-    subst (λ m. OnOk c.lose.result (WherePassed m (λ p. HasPassed c.lose.new.self (with_loss (begun_count m) c.args.text.now p)))) (ap mux_of c.self.view_is)
-    c.lose.ensures.passed
+pub returns-clause-run : goal.returns-clause-run
+returns-clause-run c = subst (λ s. OnOk c.lose.result (Loses (line_of s) c.args.text.now (board_in s) c.lose.new.self)) c.self.view_is c.lose.ensures.run
 
 pub returns-clause-told : goal.returns-clause-told
 returns-clause-told c =
     let i = c.self.inside in
-    let queued = c.note_begun.new.queued.items in
-    subst (λ s. Tells (replied_to s) queued (mux_of s) c.lose.new.self) c.self.view_is
-    (tells-all i.replied.items queued i.mux c.lose.new.self c.note_begun.ensures.noted c.in_ok-note_begun.ensures.all c.lose.ensures.others)
+    let queued = c.note_first.new.queued.items in
+    subst (λ s. Tells (line_of s) (replied_to s) queued (board_in s) c.lose.new.self) c.self.view_is
+    (tells-all i.line.place (begun_on i.board i.line.place) i.replied.items queued i.board c.lose.new.self c.note_first.ensures.noted
+    (subst (λ n. Covers (take n (clients_on i.board i.line.place)) queued) c.begun-begun.ensures c.in_ok-note_first.ensures.all)
+    c.lose.ensures.answered)
+
+pub returns-in_err-note_first-clause-some_answered : goal.returns-in_err-note_first-clause-some_answered
+returns-in_err-note_first-clause-some_answered c =
+    let i = c.self.inside in
+    on-err c.from_residual.result (HasAnsweredSome (line_of c.args.self.now) c.args.text.now (board_in c.args.self.now) i.board)
+    (subst (λ s. HasAnsweredSome (line_of s) c.args.text.now (board_in s) i.board) c.self.view_is (answered-none i.line.place c.args.text.now i.board))
+
+pub returns-in_err-note_first-clause-told : goal.returns-in_err-note_first-clause-told
+returns-in_err-note_first-clause-told c =
+    let i = c.self.inside in
+    let queued = c.note_first.new.queued.items in
+    subst (λ s. Tells (line_of s) (replied_to s) queued (board_in s) i.board) c.self.view_is
+    (tells-nobody i.line.place i.replied.items queued i.board c.note_first.ensures.noted)

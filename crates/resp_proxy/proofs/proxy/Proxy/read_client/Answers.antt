@@ -1,6 +1,6 @@
 use Rattle.std.proofs.Common.{◌≡◌, [], arith, inr, refl, subst, sym, take}
 use Rattle.resp_proxy.specs.Clients.{Holds}
-use Rattle.resp_proxy.specs.Proxies.{mux_of, terms_of}
+use Rattle.resp_proxy.specs.Proxies.{board_in, terms_of}
 use Rattle.resp_proxy.specs.declared.visit.Read.TheVariants as read
 use Rattle.resp_proxy.specs.Visiting.{HaveCome, ReadsClient}
 use Rattle.resp_proxy.proofs.Readings.{ended, not-read, nothing-came, read-bytes, read-nothing, told-taken}
@@ -9,12 +9,12 @@ use Rattle.resp_proxy.proofs.proxy.Proxy.read_client.Goals as goal
 pub returns-then-client-clause-reads : goal.returns-then-client-clause-reads
 returns-then-client-clause-reads g c held h =
     let left = g.R.Source.remaining c.args.reader.now in
-    nothing-came (terms_of c.args.self.now) c.args.client.now.id left left held c.args.client.now (mux_of c.args.self.now) (not-read left) h _ (inr (refl, refl, refl))
+    nothing-came (terms_of c.args.self.now) c.args.client.now.route left left held c.args.client.now (board_in c.args.self.now) (not-read left) h _ (inr (refl, refl, refl))
 
 pub returns-then-not-has_room-clause-reads : goal.returns-then-not-has_room-clause-reads
 returns-then-not-has_room-clause-reads g c held h =
     let left = g.R.Source.remaining c.args.reader.now in
-    nothing-came (terms_of c.args.self.now) c.args.client.now.id left left held c.args.client.now (mux_of c.args.self.now) (not-read left) h _ (refl, refl)
+    nothing-came (terms_of c.args.self.now) c.args.client.now.route left left held c.args.client.now (board_in c.args.self.now) (not-read left) h _ (refl, refl)
 
 pub returns-in-Ok-eq0-clause-reads : goal.returns-in-Ok-eq0-clause-reads
 returns-in-Ok-eq0-clause-reads g c held h =
@@ -22,10 +22,10 @@ returns-in-Ok-eq0-clause-reads g c held h =
     let left' = g.R.Source.remaining c.read.new.self in
     let shut = c.shut.new.client in
     let rules = terms_of c.args.self.now in
-    let m = mux_of c.args.self.now in
+    let m = board_in c.args.self.now in
     let none : c.in-Ok-eq0.field-0 ≡ 0 = grind arith in
-    subst (λ s. ReadsClient rules c.args.client.now.id left left' held shut read.Ended m (mux_of s)) (sym c.shut.ensures.same_state)
-    (ended rules c.args.client.now.id left left' held shut m
+    subst (λ s. ReadsClient rules c.args.client.now.route left left' held shut read.Ended m (board_in s)) (sym c.shut.ensures.same_state)
+    (ended rules c.args.client.now.route left left' held shut m
     (subst (λ n. HaveCome left left' (take n c.read.new.into)) none (read-bytes left left' c.read.new.into c.in-Ok-eq0.field-0 c.in-Ok-eq0.ensures.bytes))
     (subst (λ s. Holds (terms_of s) shut []) c.shut.ensures.same_state c.shut.ensures.nothing) c.shut.ensures.closing)
 
@@ -42,7 +42,7 @@ pub returns-in-Err-clause-reads : goal.returns-in-Err-clause-reads
 returns-in-Err-clause-reads g c held h =
     let left = g.R.Source.remaining c.args.reader.now in
     let left' = g.R.Source.remaining c.read.new.self in
-    nothing-came (terms_of c.args.self.now) c.args.client.now.id left left' held c.args.client.now (mux_of c.args.self.now)
+    nothing-came (terms_of c.args.self.now) c.args.client.now.route left left' held c.args.client.now (board_in c.args.self.now)
     (read-nothing left left' c.read.new.into c.in-Err.field-0 c.in-Err.ensures.bytes) h _ (refl, refl)
 
 pub returns-then-not-is_empty-clause-reads : goal.returns-then-not-is_empty-clause-reads

@@ -1,2 +1,0 @@
-pub mod Rejectings
-pub mod Refusings

@@ -1,3 +1,0 @@
--- The definitions that callers read.
-pub mod Rejecting
-pub mod Refusing

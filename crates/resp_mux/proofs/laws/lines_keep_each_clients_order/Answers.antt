@@ -1,5 +1,0 @@
-use Rattle.resp_mux.proofs.Orders.{in_order}
-use Rattle.resp_mux.proofs.laws.lines_keep_each_clients_order.Goals as goal
-
-pub returns : goal.returns
-returns c = in_order

@@ -1,5 +1,0 @@
-use Rattle.resp_mux.proofs.OneLine.{one_zip}
-use Rattle.resp_mux.proofs.laws.one_line_is_a_zip.Goals as goal
-
-pub returns : goal.returns
-returns c = one_zip
