@@ -15,8 +15,13 @@ HERE = os.path.dirname(os.path.realpath(__file__))
 TOP = os.path.dirname(HERE)
 SONAME = "libresp.so.0"
 ABOUT = "share/doc/resp"
-# The processors that the program and the library are compiled for: all 64-bit x86 processors. The gate names those of `rt ci`.
-PROCESSOR = os.environ.get("RESP_PROCESSOR") or "x86-64"
+# The names of all files of an installation.
+LIST = f"{ABOUT}/FILES"
+# The processors that the program and the library are compiled for: by default those of `rt ci`, with which the gate proves
+# and builds what it tests.
+PROCESSOR = os.environ.get("RESP_PROCESSOR") or "x86-64-v2"
+# The target of the library in the inspector.
+WASM = "wasm64"
 # The crates that are installed, with the file that each is built as.
 MADE = {"resp": "resp", "resp_c": "libresp_c.a"}
 EXPORTS = "RESP_0 { global: resp_*; local: *; };\n"
@@ -164,14 +169,6 @@ def program_files(path, completions_of_zsh="share/zsh/site-functions"):
     ]
 
 
-def service_files(to=ABOUT):
-    """Returns the unit of systemd for the proxy, whose program is in /usr/bin, and a sample of its settings."""
-    return [
-        Entry("lib/systemd/system/resp-proxy@.service", content(f"{HERE}/systemd/resp-proxy@.service")),
-        Entry(f"{to}/examples/resp-proxy.conf", content(f"{HERE}/systemd/resp-proxy.conf")),
-    ]
-
-
 def shared_files(archive, libraries="lib", **how):
     """Returns the file that programs need to run with the shared library."""
     return [Entry(f"{libraries}/{SONAME}", shared(archive, **how))]
@@ -186,20 +183,6 @@ def development_files(archive, libraries="lib", tool="strip"):
         Entry("include/resp.h", content(f"{TOP}/include/resp.h")),
         Entry("share/man/man3/libresp.3", content(f"{HERE}/man/libresp.3")),
     ]
-
-
-def pages(names, to):
-    """Returns these pages of the repository, below a folder."""
-    return [Entry(f"{to}/{os.path.basename(name)}", content(f"{TOP}/{name}")) for name in names]
-
-
-def documents(to=ABOUT):
-    """Returns the pages for users, with the files that they describe."""
-    left = "DECISIONS.md"
-    names = sorted(f"docs/{it}" for it in os.listdir(f"{TOP}/docs") if it.endswith((".md", ".svg")) and it != left)
-    samples = [f"{folder}/{it}" for folder in ("stunnel", "kubernetes") for it in sorted(os.listdir(f"{TOP}/docs/{folder}"))]
-    more = [Entry(f"{to}/{it}", content(f"{TOP}/docs/{it}")) for it in samples]
-    return [*pages(["README.md", "CHANGELOG.md", "SECURITY.md", *names], to), *more]
 
 
 def notices():
@@ -244,21 +227,49 @@ def root():
     return os.environ.get("DESTDIR", "") + os.path.abspath(os.environ.get("PREFIX") or "/usr/local")
 
 
-def listed(entries):
-    """Returns a file with the names of all files that are installed."""
-    names = sorted([it.name for it in entries] + [f"{ABOUT}/FILES"])
-    return Entry(f"{ABOUT}/FILES", "".join(f"{name}\n" for name in names).encode())
+def installed(root):
+    """Returns the names of the files that were installed below a folder, and of the folders that were made for them, each
+    with a slash at its end."""
+    with contextlib.suppress(FileNotFoundError):
+        return content(f"{root}/{LIST}").decode().splitlines()
+    return []
 
 
-def take_away(root):
-    """Removes the files that were installed below a folder."""
-    try:
-        names = content(f"{root}/{ABOUT}/FILES").decode().split()
-    except FileNotFoundError:
-        sys.exit(f"build: resp is not installed in {root}")
+def missing_folders(names, root):
+    """Returns the folders that have to be made for files below a folder, each with a slash at its end. The folders above
+    it begin with `..`."""
+    found = {os.path.dirname(os.path.abspath(f"{root}/{name}")) for name in names}
+    for folder in [*found]:
+        while not os.path.isdir(folder):
+            found.add(folder)
+            folder = os.path.dirname(folder)
+    return sorted(f"{os.path.relpath(it, root)}/" for it in found if not os.path.isdir(it))
+
+
+def install(entries, root):
+    """Installs files below a folder, in place of those that were installed there earlier, and notes them."""
+    before = installed(root)
+    # (an earlier version did not note that it made the folder of the list)
+    names = {LIST, f"{ABOUT}/", *(it.name for it in entries)}
+    names |= {*missing_folders(names, root), *(it for it in before if it.endswith("/"))}
+    put([*entries, Entry(LIST, "".join(f"{name}\n" for name in sorted(names)).encode())], root)
+    take_away([it for it in before if it not in names], root)
+
+
+def take_away(names, root):
+    """Removes files below a folder, and then folders that are empty."""
     for name in names:
-        with contextlib.suppress(FileNotFoundError):
-            os.remove(f"{root}/{name}")
-    with contextlib.suppress(OSError):
-        os.rmdir(f"{root}/{ABOUT}")
+        if not name.endswith("/"):
+            with contextlib.suppress(FileNotFoundError):
+                os.remove(f"{root}/{name}")
+    folders = [os.path.abspath(f"{root}/{name}") for name in names if name.endswith("/")]
+    for folder in sorted(folders, reverse=True):
+        with contextlib.suppress(OSError):
+            os.rmdir(folder)
+
+
+def uninstall(root):
+    """Removes the files that were installed below a folder, and the folders that were made for them."""
+    names = installed(root) or sys.exit(f"build: resp is not installed in {root}")
+    take_away(names, root)
     print(f"resp is removed from {root}")
