@@ -26,6 +26,10 @@ WASM = "wasm64"
 MADE = {"resp": "resp", "resp_c": "libresp_c.a"}
 EXPORTS = "RESP_0 { global: resp_*; local: *; };\n"
 CC = os.environ.get("CC", "cc")
+# Our reader under programs over hiredis: the calls that it exports, the numbers of its layouts, and its folder.
+HIREDIS_EXPORTS = "{ global: redisReader*; local: *; };\n"
+HIREDIS_LAYOUTS = (0, 1)
+HIREDIS = f"{TOP}/bindings/hiredis"
 
 
 def content(path):
@@ -145,6 +149,36 @@ def shared(archive, compiler=CC, tool="strip"):
         words = ["-shared", f"-Wl,-soname,{SONAME}", f"-Wl,--version-script,{room}/exports", *hard, *whole]
         call(compiler, *words, "-o", f"{room}/shared")
         return stripped(f"{room}/shared", "--strip-unneeded", tool=tool)
+
+
+def preloaded(archive, compiler=CC, tool="strip"):
+    """Returns the shared library that replaces the reader of hiredis in a process."""
+    includes = [f"-I{HIREDIS}/layouts", f"-I{TOP}/include"]
+    words = [compiler, "-std=c11", "-O2", "-fPIC", f"-ffile-prefix-map={TOP}=.", *includes]
+    with tempfile.TemporaryDirectory() as room:
+        made = [f"{room}/preload.o"]
+        call(*words, "-c", f"{HIREDIS}/preload.c", "-o", made[0])
+        for layout in HIREDIS_LAYOUTS:
+            for name in ("read.c", "layouts/fits.c"):
+                made.append(f"{room}/{os.path.basename(name)}-{layout}.o")
+                call(*words, f"-DHIREDIS_LAYOUT={layout}", "-c", f"{HIREDIS}/{name}", "-o", made[-1])
+        with open(f"{room}/exports", "w", encoding="ascii") as file:
+            file.write(HIREDIS_EXPORTS)
+        hard = ["-Wl,-z,relro", "-Wl,-z,now", "-Wl,-z,noexecstack", "-Wl,--no-undefined", "-Wl,--build-id=none"]
+        linked = ["-shared", f"-Wl,--version-script,{room}/exports", "-Wl,--gc-sections", *hard, *made, archive, "-lm"]
+        call(compiler, *linked, "-o", f"{room}/shared")
+        return stripped(f"{room}/shared", "--strip-unneeded", tool=tool)
+
+
+def hiredis_files(archive, libraries="lib", **how):
+    """Returns the files that put our reader under programs over hiredis."""
+    script = content(f"{HIREDIS}/resp-preload").replace(b"LIBRARIES", libraries.encode())
+    return [
+        Entry("bin/resp-preload", script, 0o755),
+        Entry(f"{libraries}/resp/libresp-hiredis.so", preloaded(archive, **how)),
+        Entry("share/resp/hiredis/read.c", content(f"{HIREDIS}/read.c")),
+        Entry("share/man/man1/resp-preload.1", content(f"{HERE}/man/resp-preload.1")),
+    ]
 
 
 def pkg_config(libraries):

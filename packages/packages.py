@@ -84,8 +84,9 @@ class Debian:
             "Depends": depends,
             "Description": f"{summary}\n{LONG}",
         }
-        if section != "utils":
+        if name != "resp":
             control["Source"] = "resp"
+        if section != "utils":
             control["Multi-Arch"] = "same"
         about = f"share/doc/{name}"
         log = f"resp ({self.version}) unstable; urgency=low\n\n  * CHANGELOG.md in the package resp has all changes.\n\n"
@@ -112,6 +113,10 @@ class Debian:
         built = files.development_files(archive, place, **tools)
         depends = f"libresp0 (= {self.version})"
         yield self.package("libresp-dev", processor, "libdevel", f"{SUMMARY} (development)", depends, built)
+        reader = files.hiredis_files(archive, place, **how)
+        about = Entry("share/doc/libresp-hiredis/README.md", documents.page("bindings/hiredis/README.md", "README.md", {}))
+        libc = f"libc6 (>= {libc_needed(reader[1].data)})"
+        yield self.package("libresp-hiredis", processor, "utils", f"{SUMMARY} (under hiredis)", libc, [*reader, about])
 
     def program(self, path, more):
         """Returns the package of the program, with these further files."""
@@ -213,6 +218,7 @@ def packed(build_library):
     page = Entry(INSPECTOR, inspector.page(built[files.WASM], version).encode())
     more = [page, Entry(f"{files.ABOUT}/PROVENANCE", origin)]
     whole = [*files.program_files(program), *files.shared_files(archive), *files.development_files(archive), *more]
+    whole += files.hiredis_files(archive)
     whole += [*documents.documents(placed), Entry(f"{files.ABOUT}/NOTICES", licences)]
     whole += [Entry("README.md", documents.page("README.md", "README.md", placed)), Entry("PROVENANCE", origin)]
     whole.append(Entry("install.sh", content(f"{HERE}/install.sh"), 0o755))
