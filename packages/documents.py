@@ -9,7 +9,7 @@ from files import ABOUT, TOP, content
 NAMES = ["README.md", "CHANGELOG.md", "SECURITY.md", "bench/README.md"]
 FOLDERS = ["docs", "docs/proof", "docs/stunnel", "docs/kubernetes"]
 BINDINGS = [f"bindings/{name}/README.md" for name in ("c", "hiredis", "node", "python", "rust")]
-PROGRAMS = [f"bindings/c/{name}.c" for name in ("command", "events", "nodes", "pipeline")]
+PROGRAMS = [f"bindings/c/{name}.c" for name in ("blocking", "command", "epoll", "events", "nodes", "pipeline")]
 LEFT_OUT = ["docs/DECISIONS.md"]
 # The unit of systemd for the proxy, whose program is in /usr/bin, and a sample of its settings.
 UNIT, SETTINGS = "packages/systemd/resp-proxy@.service", "packages/systemd/resp-proxy.conf"
