@@ -271,7 +271,8 @@ impl Channel {
         self.finish_connecting(proxy, messages);
         self.exchange(net, proxy, messages, buffer);
         self.ask(net, proxy, messages, registry);
-        if let Err(loss) = self.link.judge(self.waits(proxy)) {
+        let waits = self.waits(proxy);
+        if let Err(loss) = self.link.judge(waits) {
             self.lose(net, proxy, messages, loss);
         }
         self.finish_losing(proxy);
@@ -283,13 +284,7 @@ impl Channel {
 
     /// Asks a server that does not reply whether it is busy. The connection to a busy server is not
     /// given up.
-    fn ask(
-        &mut self,
-        net: &impl Net,
-        proxy: &Proxy,
-        messages: &mut Messages,
-        registry: &Registry,
-    ) {
+    fn ask(&mut self, net: &impl Net, proxy: &Proxy, messages: &mut Messages, registry: &Registry) {
         let now = self.link.now();
         let Some(why) = self.link.ask(net, registry, proxy.waiting(&self.line) > 0) else {
             return;
@@ -421,13 +416,7 @@ impl Channel {
 
     /// Prints that the connection to the server was lost, and replies to the commands that were
     /// sent over it, at least in part.
-    fn lose(
-        &mut self,
-        net: &impl Net,
-        proxy: &mut Proxy,
-        messages: &mut Messages,
-        loss: Loss,
-    ) {
+    fn lose(&mut self, net: &impl Net, proxy: &mut Proxy, messages: &mut Messages, loss: Loss) {
         // Otherwise a client that waits gets the descriptor of the lost connection.
         self.link.keep_spare(net);
         let why = self.reason_of(loss);

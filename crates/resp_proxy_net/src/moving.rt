@@ -565,11 +565,8 @@ impl Relay {
         setting: &Setting,
         from: usize,
     ) -> Result<(), AllocError> {
-        let Some(channel) = self.channels.get(from) else {
-            return Err(AllocError);
-        };
+        let link = self.new_link(number, setting, from)?;
         let shown = setting.shown(self.alloc)?;
-        let link = self.new_link(number, setting, &channel.link)?;
         match self.channels.get_mut(number) {
             Some(channel) => match channel.renew(&self.proxy, link, shown) {
                 Ok(()) => Ok(()),
@@ -582,15 +579,18 @@ impl Relay {
         }
     }
 
-    /// Returns a link in a setting to the server of another link.
+    /// Returns a link in a setting to the server of the setting with the number `from`.
     fn new_link(
         &self,
         number: usize,
         setting: &Setting,
-        old: &ServerLink,
+        from: usize,
     ) -> Result<ServerLink, AllocError> {
-        let backend = old.backend().copy(self.alloc)?;
-        let login = old.login().to_vec(self.alloc)?;
+        let Some(channel) = self.channels.get(from) else {
+            return Err(AllocError);
+        };
+        let backend = channel.link.backend().copy(self.alloc)?;
+        let login = channel.link.login().to_vec(self.alloc)?;
         let setting = setting.copy(self.alloc)?;
         let patience = self.settings.patience;
         Ok(ServerLink::new(

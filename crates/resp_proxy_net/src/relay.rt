@@ -386,8 +386,10 @@ impl Relay {
             return Some(place);
         }
         for channel in &mut self.channels {
-            if let Some(place) = channel.next_stalled_place(&self.proxy, self.settings.proxy.unsent)
-            {
+            if let Some(place) = channel.next_stalled_place(
+                &self.proxy,
+                self.settings.proxy.unsent,
+            ) {
                 return Some(place);
             }
         }
