@@ -3,10 +3,13 @@
 ghost use Rattle.std.specs.Prelude.{◌<◌};
 
 use crate::cutter::{Cut, Cutter};
+use crate::deadlines::Deadlines;
+use crate::service::Next;
+use std::rt::Clock;
 use std::time::Duration;
 
 /// The time after a piece in which nothing more is written to its client, in milliseconds.
-pub const PAUSE: u64 = 1;
+const PAUSE: u64 = 1;
 
 /// The pieces in which a client gets bytes, and the pauses after them. If bytes are not cut, a piece has all
 /// bytes that wait, and there are no pauses.
@@ -70,16 +73,27 @@ impl Pieces {
         }
     }
 
-    /// Returns whether a pause has begun in this visit.
-    pub fn begin_pause(&self) -> bool {
-        matches!(self.pause, Pause::Begun)
-    }
-
-    /// Sets the time at which the pause ends, or ends it.
-    pub fn pause_until(&mut self, until: Option<Duration>) {
-        self.pause = match until {
-            Some(until) => Pause::Until(until),
-            None => Pause::Over,
-        };
+    /// Sets the end of a pause that has begun in this visit, and adds it to the deadlines of the connection in
+    /// this place. Returns `next`, or `Again` if an allocation fails: then there is no pause. `now` is the time
+    /// of this turn of the loop, for a clock that cannot be read.
+    pub fn settle(
+        &mut self,
+        clock: &impl Clock,
+        now: Duration,
+        place: usize,
+        pauses: &mut Deadlines,
+        next: Next,
+    ) -> Next {
+        if !matches!(self.pause, Pause::Begun) {
+            return next;
+        }
+        let now = clock.monotonic().unwrap_or(now);
+        let until = now.saturating_add(Duration::from_millis(PAUSE));
+        if pauses.add(until, place).is_err() {
+            self.pause = Pause::Over;
+            return Next::Again;
+        }
+        self.pause = Pause::Until(until);
+        next
     }
 }

@@ -20,7 +20,7 @@ use resp_net::closing::LINGER;
 use resp_net::deadlines::Deadlines;
 use resp_net::drain::Drain;
 use resp_net::lane::PIECE;
-use resp_net::pieces::{PAUSE, Pieces};
+use resp_net::pieces::Pieces;
 use resp_net::register::register;
 use resp_net::service::{Next, Tokens};
 use resp_net::spare::Spare;
@@ -455,8 +455,7 @@ impl View {
         Ok(())
     }
 
-    /// Forwards the bytes of a connection. After a piece of cut bytes nothing is written to the client for
-    /// [`PAUSE`].
+    /// Forwards the bytes of a connection. A pause follows each piece if the bytes are cut.
     fn hand_on_pieces<W: Sink, C: Clock>(
         &mut self,
         connection: &mut Tapped,
@@ -465,17 +464,13 @@ impl View {
     ) -> Next {
         connection.pieces.look(self.now);
         let next = self.hand_on(connection, clock, out);
-        if next == Next::Close || !connection.pieces.begin_pause() {
+        if next == Next::Close {
             return next;
         }
-        let now = clock.monotonic().unwrap_or(self.now);
-        let until = now.saturating_add(Duration::from_millis(PAUSE));
-        if self.pauses.add(until, connection.place()).is_err() {
-            connection.pieces.pause_until(None);
-            return Next::Again;
-        }
-        connection.pieces.pause_until(Some(until));
-        next
+        let place = connection.place();
+        connection
+            .pieces
+            .settle(clock, self.now, place, &mut self.pauses, next)
     }
 
     /// Forwards the bytes of a connection.
