@@ -20,6 +20,13 @@ VERDICTS = {
     "outside": "a form that the parser does not claim to read",
 }
 WORST_FIRST = list(VERDICTS)
+# The sections that speak of a client's side, by the names that the cases give the two texts.
+SECTIONS = {
+    "RPS": ("Request-Response model", "RESP protocol description", "RESP versions", "Simple strings", "Simple errors", "Integers",
+            "Bulk strings", "Null bulk strings", "Arrays", "Null arrays", "Null elements in arrays", "Nulls", "Booleans", "Doubles",
+            "Big numbers", "Bulk errors", "Verbatim strings", "Maps", "Attributes", "Sets", "Pushes"),
+    "RESP3": ("Double", "Map type", "Set type", "Push type", "Streamed strings", "Streamed aggregated data types"),
+}
 # Cases up to this length are cut at each place, longer ones near both ends and around powers of two.
 CUT_EVERYWHERE = 160
 BYTE_BY_BYTE = 700
@@ -167,7 +174,8 @@ def of_invalid(values, due, known, is_error):
 
 
 def problems_of(cases):
-    """Returns what is wrong with the form of the cases: each has all keys, a name of its own and bytes in two forms."""
+    """Returns what is wrong with the form of the cases: each has all keys, a name of its own, bytes in two forms, sections of
+    the two texts, and a rule."""
     keys = {"id", "version", "profile", "bytes", "hex", "must", "values", "section", "rule", "flags"}
     found, names = [], set()
     for case in cases:
@@ -179,12 +187,22 @@ def problems_of(cases):
             found.append(f"{name}: twice")
         elif case["must"] not in ("accept", "reject", "wait", "novalue", "may") or case["profile"] not in ("resp2", "resp3", "streamed"):
             found.append(f"{name}: must or profile")
+        elif not sections_of(case["section"]):
+            found.append(f"{name}: section")
+        elif not case["rule"].endswith("."):
+            found.append(f"{name}: rule")
         elif shown(bytes.fromhex(case["hex"])) != case["bytes"]:
             found.append(f"{name}: bytes and hex differ")
         elif case["must"] == "reject" and not all(0 <= at < len(bytes_of(case)) for at in case.get("at") or [-1]):
             found.append(f"{name}: at")
         names.add(name)
     return found
+
+
+def sections_of(section):
+    """Returns the sections of the two texts that a case names, or nothing if a text has no such section."""
+    named = [tuple(it.split(", ", 1)) for it in section.split("; ")]
+    return named if all(len(it) == 2 and it[1] in SECTIONS.get(it[0], ()) for it in named) else []
 
 
 def shown(text):

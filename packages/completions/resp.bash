@@ -11,7 +11,7 @@ _resp() {
     --record | --replay) compopt -o filenames && COMPREPLY=($(compgen -f -- "$word")) && return ;;
     --color) COMPREPLY=($(compgen -W "auto always never" -- "$word")) && return ;;
     --proto) COMPREPLY=($(compgen -W "2 3" -- "$word")) && return ;;
-    --also | --check-every | --client | --client-buffer | --client-buffer-limit | --command | --depth | \
+    --also | --check-every | --client | --client-buffer | --client-buffer-limit | --command | --cut | --depth | \
         --drain-timeout | --items | --key | --length | --max-clients | --max-dedicated | --max-shared | --piece | \
         --pipeline | --port | --report | --server-buffer | --server-timeout | --shown | --slower | --stats-every | \
         --timeout | --total | --user | --window) return ;;
@@ -39,7 +39,7 @@ _resp() {
     tap)
         options="--stats --stats-every --time --date --connections --json --color --utf8 --shown --show-passwords -h \
             --help --errors --slower --command --key --client --record --replay --port --max-clients --drain-timeout \
-            --no-inline --exit-with-output --keep-going --depth --length --total --items --no-streamed"
+            --no-inline --exit-with-output --keep-going --cut --depth --length --total --items --no-streamed"
         ;;
     proxy)
         options="--server-timeout --report --drain --drain-timeout --local-ping --also --learn --no-inline --check-every \

@@ -102,6 +102,7 @@ complete -c resp -n '__fish_seen_subcommand_from tap' -l drain-timeout -x -d 'At
 complete -c resp -n '__fish_seen_subcommand_from tap' -l no-inline -d 'Reads no inline commands, such as the line PING'
 complete -c resp -n '__fish_seen_subcommand_from tap' -l exit-with-output -d 'Ends at once if the output fails'
 complete -c resp -n '__fish_seen_subcommand_from tap' -l keep-going -d 'Accepts clients after the output has failed'
+complete -c resp -n '__fish_seen_subcommand_from tap' -l cut -x -d 'Cuts the replies into pieces of at most CUT bytes, or of random sizes with random:SEED'
 complete -c resp -n '__fish_seen_subcommand_from tap' -l depth -x -d 'Maximum nesting of aggregates, 4 to 128'
 complete -c resp -n '__fish_seen_subcommand_from tap' -l length -x -d 'Maximum bytes of a string or line, 64 to 1G'
 complete -c resp -n '__fish_seen_subcommand_from tap' -l total -x -d 'Maximum bytes of a value, 256 to 1024G'

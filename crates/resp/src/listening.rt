@@ -8,6 +8,7 @@ use crate::most_clients::{SERVE, TAP, descriptors_of_proxy, most_clients};
 use crate::replaying::run_replay;
 use crate::style::style_of;
 use crate::swapped::write_order_hint;
+use resp_cli_args::cutting::{Cutting, cutting_of};
 use resp_cli_args::duration::duration_of;
 use resp_cli_args::listen_address::ListenAddress;
 use resp_cli_args::proxying::{ProxyOptions, Proxying};
@@ -20,6 +21,7 @@ use resp_cli_args::words::stop;
 use resp_commands::entry;
 use resp_io::device::Sink;
 use resp_io::live::LiveSink;
+use resp_net::cutter::Cut;
 use resp_net::{Address, Backend};
 use resp_paint::{Painted, Style};
 use resp_print::text::write_text;
@@ -43,6 +45,15 @@ const DEVICE_FAILED: u8 = 3;
 const NO_JSON_OF_TABLES: &[u8] =
     b"error: the argument '--json' cannot be used with '--stats' or '--stats-every <TIME>'\n\n\
     For more information, try '--help'.\n";
+
+/// The error of `tap` with a capture and `--cut`.
+const NO_CUT_OF_CAPTURES: &[u8] =
+    b"error: the argument '--cut <CUT>' cannot be used with '--replay <FILE>'\n\n\
+    For more information, try '--help'.\n";
+
+/// The error of a text that says no cuts, after the text.
+const BAD_CUT: &[u8] =
+    b"' for '--cut <CUT>': expected a number from 1 to 65536, or random: and a seed, such as random:7";
 
 /// The error of a text that is not a duration, after the text.
 const BAD_DURATION: &[u8] =
@@ -148,6 +159,9 @@ pub fn run_tap<W: LiveSink>(
         let _ = write_text(&mut faults.lines, NO_JSON_OF_TABLES);
         return Ok(BAD_ARGUMENTS);
     }
+    if !is_cut_right(tapping, faults) {
+        return Ok(BAD_ARGUMENTS);
+    }
     match &tapping.traffic {
         Traffic::Live(route) => run_window(rt, tapping, route, slower, style, writer, faults),
         Traffic::Captured(captured) => {
@@ -155,6 +169,31 @@ pub fn run_tap<W: LiveSink>(
             run_replay(rt, tapping, captured, slower, writer, faults)
         }
     }
+}
+
+/// Returns whether `--cut` is not given or says where the bytes of a server are cut. If it is wrong,
+/// writes why.
+fn is_cut_right(tapping: &Tapping<'_>, faults: &mut Faults<'_>) -> bool {
+    let Some(text) = tapping.cut else {
+        return true;
+    };
+    if cutting_of(text).is_none() {
+        let _ = faults.write_bad_value(text, BAD_CUT);
+        return false;
+    }
+    if let Traffic::Captured(_) = tapping.traffic {
+        let _ = write_text(&mut faults.lines, NO_CUT_OF_CAPTURES);
+        return false;
+    }
+    true
+}
+
+/// Returns where the bytes of a server are cut.
+fn cut_of(text: &str) -> Option<Cut> {
+    Some(match cutting_of(text)? {
+        Cutting::Every(size) => Cut::Every(size),
+        Cutting::Random(seed) => Cut::Random(seed),
+    })
 }
 
 /// Runs the tap between clients and a server. Returns the status when it has ended.
@@ -267,6 +306,7 @@ fn settings_of_window(
         limits: tapping.limits,
         most: most_clients(rt, tapping.clients, TAP),
         drain_timeout: Duration::from_micros(tapping.drain_timeout),
+        cut: tapping.cut.and_then(cut_of),
         tells_time: tells_time(tapping, is_slow),
         tells_date: tapping.tells_date,
         after_failure: after_failure(tapping),

@@ -7,3 +7,4 @@ pub mod SizeLemmas
 pub mod HostLemmas
 pub mod NameLemmas
 pub mod DurationLemmas
+pub mod CuttingLemmas

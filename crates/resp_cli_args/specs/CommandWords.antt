@@ -169,6 +169,7 @@ pub record HasTapOptions (given : List Row) (options : TapOptions) : Type 0 wher
   pub with_doubles : options.limits.doubles ≡ true
   pub at_once : HasMost given (codes "max-clients") options.clients
   pub drains : HasPause given (codes "drain-timeout") 1000 86400000000 options.drain_timeout
+  pub cuts : option_map (λ text. text.now) options.cut ≡ first_of (codes "cut") given
   pub tells : HasFlag given (codes "time") options.tells_time
   pub dates : HasFlag given (codes "date") options.tells_date
   pub exits : HasFlag given (codes "exit-with-output") options.exits_with_output
@@ -185,6 +186,7 @@ tap_options_of tapping = record {
   limits = tapping.limits;
   clients = tapping.clients;
   drain_timeout = tapping.drain_timeout;
+  cut = tapping.cut;
   tells_time = tapping.tells_time;
   tells_date = tapping.tells_date;
   exits_with_output = tapping.exits_with_output;

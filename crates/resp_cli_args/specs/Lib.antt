@@ -8,5 +8,6 @@ pub mod CommandWords
 pub mod Commands
 pub mod Units
 pub mod Durations
+pub mod Cuttings
 pub mod Names
 pub mod Sizes

@@ -151,7 +151,7 @@ watching_options = stats_options ++ flag_option (codes "time") ∷ flag_option (
 abbrev pub printing_options : List Rule
 printing_options = traffic_options ++ clients_option ∷ time_option (codes "drain-timeout") (codes "30s") ∷
     flag_option (codes "no-inline") ∷
-    flag_option (codes "exit-with-output") ∷ flag_option (codes "keep-going") ∷
+    flag_option (codes "exit-with-output") ∷ flag_option (codes "keep-going") ∷ name_option (codes "cut") ∷
     optional_word (codes "listen") ∷ optional_word (codes "server") ∷ []
 
 -- the options of `tap`

@@ -7,6 +7,7 @@
 pub mod asked;
 pub mod asking;
 mod bad_address;
+pub mod cutting;
 pub mod duration;
 mod instead;
 pub mod laws;

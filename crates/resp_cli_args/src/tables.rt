@@ -454,6 +454,14 @@ const PRINTING: &[Parameter] = &[
         help: "Accepts clients after the output has failed",
         ..PLAIN
     },
+    Parameter {
+        name: "cut",
+        heading: CONNECTIONS,
+        form: Text,
+        value_names: &["CUT"],
+        help: "Cuts the replies into pieces of at most CUT bytes,\nor of random sizes with random:SEED",
+        ..PLAIN
+    },
     LISTEN,
     Parameter {
         is_required: false,

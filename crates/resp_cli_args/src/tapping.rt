@@ -25,6 +25,8 @@ pub struct Tapping<'a> {
     pub clients: Option<usize>,
     /// The microseconds after which a tap that drains closes the clients that are still open, at most 24 h.
     pub drain_timeout: u64,
+    /// The text that says where the bytes of the server are cut, if it is given.
+    pub cut: Option<&'a str>,
     /// Whether times are printed.
     pub tells_time: bool,
     /// Whether times are printed with their dates.
@@ -81,6 +83,7 @@ struct TapOptions<'a> {
     limits: Limits,
     clients: Option<usize>,
     drain_timeout: u64,
+    cut: Option<&'a str>,
     tells_time: bool,
     tells_date: bool,
     exits_with_output: bool,
@@ -108,6 +111,7 @@ pub(crate) fn tapping_of<'a>(matches: &ArgMatches<'a>) -> Result<Tapping<'a>, No
             limits: options.limits,
             clients: options.clients,
             drain_timeout: options.drain_timeout,
+            cut: options.cut,
             tells_time: options.tells_time,
             tells_date: options.tells_date,
             exits_with_output: options.exits_with_output,
@@ -133,6 +137,7 @@ fn options_of<'a>(matches: &ArgMatches<'a>) -> Option<TapOptions<'a>>
         limits: limits_of(matches)?.with_doubles(true),
         clients: most_of(matches, "max-clients")?,
         drain_timeout: pause_between(matches, "drain-timeout", MILLISECOND, DAY)?,
+        cut: text_of(matches, "cut"),
         tells_time: flag_of(matches, "time")?,
         tells_date: flag_of(matches, "date")?,
         exits_with_output: flag_of(matches, "exit-with-output")?,

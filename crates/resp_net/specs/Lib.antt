@@ -1,4 +1,5 @@
 pub mod Placing
 pub mod Waits
+pub mod Cuts
 pub mod Descriptors
 pub mod Ways

@@ -41,6 +41,8 @@ pub struct Lane {
 pub struct Forwarded {
     /// The number of bytes that were read, which are the first of the buffer.
     pub count: usize,
+    /// The number of bytes that were written.
+    pub written: usize,
     /// Whether the sending side has ended in this visit.
     pub has_ended: bool,
     pub progress: Progress,
@@ -84,22 +86,39 @@ impl Lane {
     ) -> Forwarded
         requires { 0 < length buffer.old }
     {
+        self.visit_within(from, to, is_at_end, usize::MAX, buffer)
+    }
+
+    /// Visits the lane as [`Lane::visit`] does, and writes at most `most` bytes. If `most` is 0, it writes at
+    /// most one byte.
+    pub fn visit_within(
+        &mut self,
+        from: &Stream,
+        to: &Stream,
+        is_at_end: bool,
+        most: usize,
+        buffer: &mut [u8],
+    ) -> Forwarded
+        requires { 0 < length buffer.old }
+    {
         if self.has_ended {
             return Forwarded {
                 count: 0,
+                written: 0,
                 has_ended: false,
                 progress: Progress::Waits,
             };
         }
         let mut reader = Device::new(Input::new(from, is_at_end));
-        let mut writer = Device::new(Output::new(to));
+        let mut writer = Device::new(Output::within(most, to));
         let (count, visited) = self.way.visit(&mut reader, &mut writer, buffer);
         let would_wait = reader.into_inner().would_wait();
+        let writer = writer.into_inner();
         let progress = match visited {
             Visited::Onward | Visited::NotRead if would_wait => Progress::Waits,
             Visited::Onward => Progress::MayGoOn,
             Visited::NotRead | Visited::OutOfMemory => Progress::Failed,
-            Visited::NotWritten => after_write(&writer.into_inner()),
+            Visited::NotWritten => after_write(&writer),
             Visited::Ended => {
                 self.end(to);
                 Progress::Waits
@@ -107,6 +126,7 @@ impl Lane {
         };
         Forwarded {
             count,
+            written: writer.written(),
             has_ended: self.has_ended,
             progress,
         }

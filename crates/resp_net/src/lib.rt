@@ -15,6 +15,7 @@
 pub mod backend;
 pub mod cause;
 pub mod closing;
+pub mod cutter;
 pub mod deadlines;
 pub mod descriptors;
 pub mod drain;
@@ -24,6 +25,7 @@ pub mod laws;
 mod listener;
 pub mod non_blocking;
 mod own_address;
+pub mod pieces;
 pub mod register;
 pub mod service;
 pub mod spare;

@@ -82,10 +82,15 @@ impl<R: Read> Read for Input<'_, R> {
     }
 }
 
-/// A writer that knows, after a failed write, whether the write failed because it would block.
+/// A writer that knows how many bytes it has written, and after a failed write whether the write failed
+/// because it would block.
 #[derive(Drop)]
 pub struct Output<W> {
     inner: W,
+    /// The maximum number of bytes of a write.
+    most: usize,
+    /// The number of bytes that the last write has written.
+    written: usize,
     is_full: bool,
     has_failed: bool,
 }
@@ -93,11 +98,23 @@ pub struct Output<W> {
 impl<W> Output<W> {
     /// Returns a writer over `inner`, before anything was written.
     pub fn new(inner: W) -> Self {
+        Output::within(usize::MAX, inner)
+    }
+
+    /// Returns a writer over `inner` that writes at most `most` bytes at once, and at least one.
+    pub fn within(most: usize, inner: W) -> Self {
         Output {
             inner,
+            most: most.max(1),
+            written: 0,
             is_full: false,
             has_failed: false,
         }
+    }
+
+    /// Returns the number of bytes that the last write has written.
+    pub fn written(&self) -> usize {
+        self.written
     }
 
     /// Returns whether the last write failed for another reason, or wrote no byte.
@@ -113,7 +130,11 @@ impl<W> Output<W> {
 
 impl<W: Write> Write for Output<W> {
     fn write(&mut self, from: &[u8]) -> io::Result<usize> {
-        let count = self.inner.write(from);
+        let count = self.inner.write(&from[..from.len().min(self.most)]);
+        self.written = match &count {
+            Ok(count) => *count,
+            Err(_) => 0,
+        };
         self.is_full = match &count {
             Ok(_) => false,
             Err(error) => error.kind() == ErrorKind::WouldBlock,

@@ -12,6 +12,7 @@ use resp_net::backend::Attempt;
 use resp_net::closing::drop_input;
 use resp_net::lane::{Lane, Progress, TURNS, next_of};
 use resp_net::non_blocking::is_open;
+use resp_net::pieces::Pieces;
 use resp_net::register::register;
 use resp_net::service::{Next, Tokens};
 use resp_net::stream::Stream;
@@ -55,6 +56,8 @@ pub(crate) struct Tapped {
     may_have_ended: bool,
     to_server: Lane,
     to_client: Lane,
+    /// The pieces in which the client gets the bytes of the server.
+    pub(crate) pieces: Pieces,
     watcher: Watcher,
     /// The client's number, and how its traffic is printed.
     printing: Printing,
@@ -72,6 +75,7 @@ impl Tapped {
     pub(crate) fn new(
         alloc: Global,
         sockets: Sockets,
+        pieces: Pieces,
         watcher: Watcher,
         printing: Printing,
         recorded: Recorded,
@@ -82,6 +86,7 @@ impl Tapped {
             may_have_ended: false,
             to_server: Lane::new(alloc),
             to_client: Lane::new(alloc),
+            pieces,
             watcher,
             printing,
             recorded,
@@ -244,12 +249,22 @@ impl Tapped {
         if side == Side::Client && self.is_shut && !self.to_server.waits() {
             return Progress::Waits;
         }
+        if side == Side::Server && self.pieces.are_paused() {
+            return Progress::Waits;
+        }
         let is_first = !self.to_server.has_ended() && !self.to_client.has_ended();
         let (client, server) = (&self.sockets.client, &self.sockets.server);
         let may_end = self.may_have_ended;
         let forwarded = match side {
             Side::Client => self.to_server.visit(client, server, may_end, buffer),
-            Side::Server => self.to_client.visit(server, client, may_end, buffer),
+            Side::Server => {
+                let most = self.pieces.most();
+                let forwarded = self
+                    .to_client
+                    .visit_within(server, client, may_end, most, buffer);
+                self.pieces.note_written(forwarded.written);
+                forwarded
+            }
         };
         if forwarded.count == 0 && !forwarded.has_ended {
             return forwarded.progress;

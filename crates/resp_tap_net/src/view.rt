@@ -20,6 +20,7 @@ use resp_net::closing::LINGER;
 use resp_net::deadlines::Deadlines;
 use resp_net::drain::Drain;
 use resp_net::lane::PIECE;
+use resp_net::pieces::Pieces;
 use resp_net::register::register;
 use resp_net::service::{Next, Tokens};
 use resp_net::spare::Spare;
@@ -84,6 +85,8 @@ pub(crate) struct View {
     pub(crate) drain: Drain,
     /// The times at which the connections of clients to which nothing more is sent are closed.
     pub(crate) lingering: Deadlines,
+    /// The times at which pauses between two pieces end.
+    pub(crate) pauses: Deadlines,
     /// The time of this turn of the loop.
     pub(crate) now: Duration,
     /// The bytes of one read of any connection.
@@ -165,6 +168,7 @@ impl View {
             recording: Recording::none(),
             drain: Drain::new(rt, settings.drain_timeout),
             lingering: Deadlines::new(alloc),
+            pauses: Deadlines::new(alloc),
             now: Duration::from_millis(0),
             buffer: [0; PIECE],
         }
@@ -416,7 +420,7 @@ impl View {
                     self.backend.prefer(connection.attempt());
                     connection.record_opening(&mut self.recording, rt);
                 }
-                return self.hand_on(connection, rt, out);
+                return self.hand_on_pieces(connection, rt, out);
             }
             Opening::Failed(error) => error,
         };
@@ -449,6 +453,24 @@ impl View {
         connection.set_server(server, attempt, registry)?;
         self.spare.keep(net);
         Ok(())
+    }
+
+    /// Forwards the bytes of a connection. A pause follows each piece if the bytes are cut.
+    fn hand_on_pieces<W: Sink, C: Clock>(
+        &mut self,
+        connection: &mut Tapped,
+        clock: &C,
+        out: &mut W,
+    ) -> Next {
+        connection.pieces.look(self.now);
+        let next = self.hand_on(connection, clock, out);
+        if next == Next::Close {
+            return next;
+        }
+        let place = connection.place();
+        connection
+            .pieces
+            .settle(clock, self.now, place, &mut self.pauses, next)
     }
 
     /// Forwards the bytes of a connection.
@@ -541,7 +563,8 @@ impl View {
         let peer = sockets.client.peer_addr().unwrap_or(None);
         let server = self.recorded_server();
         let recorded = self.recording.begin(net, endpoint_of(peer, number), server);
-        Ok(Tapped::new(self.alloc, sockets, watcher, printing, recorded))
+        let pieces = Pieces::new(self.settings.cut);
+        Ok(Tapped::new(self.alloc, sockets, pieces, watcher, printing, recorded))
     }
 }
 

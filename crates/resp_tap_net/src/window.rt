@@ -10,6 +10,7 @@ use mio::Registry;
 use resp_capture::End;
 use resp_io::live::LiveSink;
 use resp_net::backend::{Address, Backend};
+use resp_net::cutter::Cut;
 use resp_net::event_loop::Loop;
 use resp_net::service::{Next, Service, Tokens, shorter};
 use resp_net::stream::Stream;
@@ -64,6 +65,8 @@ pub struct TapSettings {
     pub most: usize,
     /// The time after which a window that drains closes the clients that are still open.
     pub drain_timeout: Duration,
+    /// Where the bytes of the server are cut into pieces, if they are.
+    pub cut: Option<Cut>,
     /// Whether times are printed.
     pub tells_time: bool,
     /// Whether the times of lines of text have the date too.
@@ -260,10 +263,11 @@ impl<R: Net + Clock + Eprint + Files + Alloc, W: LiveSink> Service<Tapped> for W
 
     fn patience(&self) -> Option<Duration> {
         let now = self.view.now;
-        let of_clients = shorter(
+        let of_ends = shorter(
             self.view.drain.patience(now),
             self.view.lingering.patience(now),
         );
+        let of_clients = shorter(of_ends, self.view.pauses.patience(now));
         shorter(self.view.patience(), of_clients)
     }
 
@@ -294,9 +298,12 @@ impl<R: Net + Clock + Eprint + Files + Alloc, W: LiveSink> Service<Tapped> for W
 
     fn next_due(&mut self) -> Option<usize> {
         let now = self.view.now;
-        match self.view.drain.next_place() {
+        if let Some(place) = self.view.drain.next_place() {
+            return Some(place);
+        }
+        match self.view.lingering.next_place(now) {
             Some(place) => Some(place),
-            None => self.view.lingering.next_place(now),
+            None => self.view.pauses.next_place(now),
         }
     }
 }
