@@ -1,12 +1,15 @@
 -- Replies to HELLO.
-use Rattle.std.proofs.Common.{◌≡◌, ℕ, ◌+◌, ◌<◌, ◌^◌, List, ◌++◌, codes, length, take, drop, sym, ap, ◌∙◌, arith, append_assoc, length-append, take-append-drop}
+use Rattle.std.proofs.Common.{◌≡◌, ℕ, zero, suc, ◌+◌, ◌<◌, ◌^◌, ◌==◌, List, [], ◌∷◌, ◌++◌, Option, None, Some, IfSome, refl, subst, codes, length, take, drop, sym, ap, ◌∙◌, arith, append_assoc, length-append, take-append-drop}
 use Rattle.std.proofs.Math.Seq.{drop-append_seam, take-add, take-append_seam}
-use Rattle.std.proofs.lemmas.List.{append-nil}
+use Rattle.std.proofs.Math.ListN.{get_or}
+use Rattle.std.proofs.lemmas.Bool.{eqb-true}
+use Rattle.std.proofs.lemmas.List.{append-nil, get_or-take, length-take}
+use Rattle.std.specs.Prelude.{slice_get, unwrap_or}
 use Rattle.std.specs.Fmt as fmt
-use Rattle.memchr.specs.Find.{Nowhere, OccursAt}
+use Rattle.memchr.specs.Find.{IsFirstByte, Nowhere, OccursAt, is_byte}
 use Rattle.memchr.proofs.lemmas.MatchLemmas.{OccursAt-from_part, OccursAt-part}
 use Rattle.resp_value.proofs.StdDigits.{decimal-std}
-use Rattle.resp_proxy.specs.Hellos.{HasId, HasNumber, IsIdAround, id_key, own_reply}
+use Rattle.resp_proxy.specs.Hellos.{EndsAtLine, HasId, HasNumber, IsIdAround, id_key, own_reply}
 use Rattle.resp_value.specs.Canonical.{canonical_text}
 use Rattle.resp_value.specs.Numbers.{decimal}
 use Rattle.resp_value.specs.declared.version.Version.TheVariants.{Two}
@@ -41,10 +44,38 @@ nowhere-id reply nowhere h =
     nowhere (length h.front) (omega arith) (omega (arith, size, key))
     (OccursAt-from_part reply id_key (length h.front) (omega (arith, size, key)) part)
 
+first-of-drop : (rest : List ℕ) (k : ℕ) → k < length rest → slice_get (drop k rest) 0 ≡ Some (get_or rest k 0)
+first-of-drop [] k within = absurd (omega (arith, within))
+first-of-drop (x ∷ rest) zero within = refl
+first-of-drop (x ∷ rest) (suc k) within = first-of-drop rest k (omega (arith, within))
+
+drop-all : (rest : List ℕ) → slice_get (drop (length rest) rest) 0 ≡ None
+drop-all [] = refl
+drop-all (x ∷ rest) = drop-all rest
+
+-- the bytes up to the first CR, or all bytes if there is none
+ends-at-line : (rest : List ℕ) (found : Option ℕ) → IsFirstByte (is_byte 13) rest found →
+    EndsAtLine (take (unwrap_or found (length rest)) rest) (drop (unwrap_or found (length rest)) rest)
+ends-at-line rest None nowhere = record {
+  inside = λ place within e.
+      let size = length-take (length rest) rest in
+      nowhere place (omega arith) (omega (arith, within, size))
+      (ap (λ x. x == 13) (sym (get_or-take (length rest) rest place 0 (omega (arith, within, size))) ∙ e));
+  end = subst (λ o. IfSome o (λ byte. byte ≡ 13)) (sym (drop-all rest)) tt;
+}
+ends-at-line rest (Some k) found = record {
+  inside = λ place within e.
+      let size = length-take k rest in
+      found.0.before place (omega arith) (omega (arith, within, size))
+      (ap (λ x. x == 13) (sym (get_or-take k rest place 0 (omega (arith, within, size))) ∙ e));
+  end = subst (λ o. IfSome o (λ byte. byte ≡ 13)) (sym (first-of-drop rest k found.0.high)) (eqb-true (get_or rest k 0) 13 found.1);
+}
+
 -- the parts of a reply around the digits after a key
-pub around-key : (reply before rest after : List ℕ) (start count : ℕ) → OccursAt reply id_key start →
-    before ≡ take (start + 9) reply → rest ≡ drop (start + 9) reply → after ≡ drop count rest → IsIdAround reply before after
-around-key reply before rest after start count occurs front back end =
+pub around-key : (reply before rest after : List ℕ) (start count : ℕ) (found : Option ℕ) → OccursAt reply id_key start →
+    before ≡ take (start + 9) reply → rest ≡ drop (start + 9) reply → IsFirstByte (is_byte 13) rest found →
+    count ≡ unwrap_or found (length rest) → after ≡ drop count rest → IsIdAround reply before after
+around-key reply before rest after start count found occurs front back first last end =
     let key : take 9 (drop start reply) ≡ id_key = OccursAt-part reply id_key start occurs in
     let tail : rest ≡ take count rest ++ after =
     sym (take-append-drop count rest) ∙ ap (λ z. take count rest ++ z) (sym end) in
@@ -55,6 +86,8 @@ around-key reply before rest after start count occurs front back end =
       digits = take count rest;
       key = front ∙ take-add start 9 reply ∙ ap (λ z. take start reply ++ z) key;
       whole = whole ∙ ap (λ z. before ++ z) tail ∙ sym (append_assoc before (take count rest) after);
+      line = subst (λ z. EndsAtLine (take count rest) z) (sym end)
+          (subst (λ n. EndsAtLine (take n rest) (drop n rest)) (sym last) (ends-at-line rest found first));
     }
 
 -- the text before the digits, other digits, and the text after them, appended one after another

@@ -1,5 +1,5 @@
 -- Replies to HELLO.
-use Rattle.std.specs.Prelude.{◌≡◌, ◌⊎◌, ℕ, ℤ, pos, List, [], ◌∷◌, ◌++◌, codes}
+use Rattle.std.specs.Prelude.{◌≡◌, ◌≢◌, ◌⊎◌, ◌<◌, ℕ, ℤ, pos, List, [], ◌∷◌, ◌++◌, IfSome, codes, length, slice_get, slice_index}
 use Rattle.resp_value.specs.Data.{Datum, scalar, aggregate, data_of_list}
 use Rattle.resp_value.specs.Data as d
 use Rattle.resp_value.specs.Numbers.{decimal}
@@ -26,12 +26,18 @@ pub record HasId (reply : List ℕ) : Type 0 where
   pub rest : List ℕ
   pub whole : reply ≡ front ++ id_key ++ rest
 
--- these bytes are before the digits and after them
+-- the bytes end before the first CR, or there is none and nothing follows them
+pub record EndsAtLine (bytes after : List ℕ) : Type 0 where
+  pub inside : (place : ℕ) → place < length bytes → slice_index bytes place ≢ 13
+  pub end : IfSome (slice_get after 0) (λ byte. byte ≡ 13)
+
+-- these bytes are before the digits and after them, and the digits end at the end of their line
 pub record IsIdAround (reply before after : List ℕ) : Type 0 where
   pub front : List ℕ
   pub digits : List ℕ
   pub key : before ≡ front ++ id_key
   pub whole : reply ≡ before ++ digits ++ after
+  pub line : EndsAtLine digits after
 
 -- the text is the reply, with this number in place of the digits
 pub record HasNumber (number : ℕ) (reply text : List ℕ) : Type 0 where
