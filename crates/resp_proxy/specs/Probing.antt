@@ -1,10 +1,12 @@
 -- Probes of the connection to the server: commands of the proxy's own, whose replies are known.
-use Rattle.std.specs.Prelude.{◌≡◌, ◌⊎◌, ℕ, ◌==◌, true, false, List, ◌++◌, Option, IfSome, Result, Err, codes}
+use Rattle.std.specs.Prelude.{◌≡◌, ◌⊎◌, ℕ, ◌==◌, true, false, List, ◌++◌, Option, None, Some, IfSome, Result, Err, codes}
 use Rattle.std.specs.List.{starts_with}
 use Rattle.resp_board.specs.Boards.{Reply, is_same}
 use Rattle.resp_board.specs.Histories.{History, with_event}
-use Rattle.resp_board.specs.Runs.{HasRun, waiting_for}
+use Rattle.resp_board.specs.Runs.{ClientIsFull, HasNoCommandLeft, HasRun, LacksLine, LineIsFull, waiting_for}
 use Rattle.resp_board.specs.declared.board.Board.{Board}
+use Rattle.resp_board.specs.declared.error.AskError.{AskError}
+use Rattle.resp_board.specs.declared.error.AskError.TheVariants as refusal
 use Rattle.resp_board.specs.declared.ticket.ClientId.{ClientId}
 use Rattle.resp_proxy.specs.declared.error.ServerError.{ServerError}
 use Rattle.resp_proxy.specs.declared.error.ServerError.TheVariants as error
@@ -25,6 +27,16 @@ AreInStep prober expected m = IfSome prober (λ who. IfSome (waiting_for m who) 
 -- the client sends no probes
 abbrev pub IsAnother : Option ClientId → ClientId → Type 0
 IsAnother prober client = IfSome prober (λ who. is_same who client ≡ false)
+
+-- the error has its cause in the prober, in a bound of the board or in a failed allocation
+abbrev pub RefusesProbe : Board → Option ClientId → ℕ → List ℕ → AskError → Type 0
+RefusesProbe m None line text e = e ≡ refusal.NoClient
+RefusesProbe m (Some who) line text refusal.NoClient = waiting_for m who ≡ None
+RefusesProbe m (Some who) line text refusal.NoLine = LacksLine m who line
+RefusesProbe m (Some who) line text refusal.ClientFull = ClientIsFull m who
+RefusesProbe m (Some who) line text refusal.LineFull = LineIsFull m who line text
+RefusesProbe m (Some who) line text refusal.TooMany = HasNoCommandLeft m who
+RefusesProbe m (Some who) line text refusal.OutOfMemory = Unit {0}
 
 -- Replies came, and then one more, and no reply behind it was given to anybody. Before this last reply the replies to probes
 -- were the expected ones, and with it they are not.

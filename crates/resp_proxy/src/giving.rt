@@ -57,6 +57,7 @@ pub(crate) fn send<W: Sink>(board: &mut Board, line: LineId, writer: &mut W) -> 
         board.old board.new }
     ensures same_bytes { KeepsBytes board.old board.new }
     ensures all { result ≡ WriteOutcome.All → unsent_on board.new line.place ≡ [] }
+    ensures idle { unsent_on board.old line.place ≡ [] → result ≡ WriteOutcome.All }
     ensures once { (unsent_on board.old line.place ≡ []) ⊎
         (W.calls writer.new ≡ count_after 1 (W.calls writer.old)) }
     ensures same_clients { KeepsOpen board.old board.new }

@@ -1,6 +1,6 @@
 //! Probes of the connection to the server: the proxy's own commands, whose replies are known.
 
-ghost use Rattle.std.specs.Prelude.{◌≡◌, ℕ, List, ◌⊎◌, ◌++◌, None, Some, [], codes, false, IfOk, IsTrue, OnErr, OnOk};
+ghost use Rattle.std.specs.Prelude.{◌≡◌, ◌*◌, ℕ, List, length, min, ◌⊎◌, ◌++◌, None, Some, [], codes, false, IfOk, IsTrue, OnErr, OnOk};
 ghost use Rattle.resp_proxy.specs.Probing.{AreInStep, IsAnother, echo_text, echoed_text};
 
 use bytes::BytesMut;
@@ -88,6 +88,8 @@ impl Prober {
     /// expected last.
     pub(crate) fn keep(&mut self, waiting: u64)
         ensures rest { (gone : List ℕ) × (self.old.expected.items ≡ gone ++ self.new.expected.items) }
+        ensures kept { length self.new.expected.items ≡
+            min (length self.old.expected.items) (waiting * 39) }
         ensures same_client { self.new.who ≡ self.old.who }
     {
         let kept = (waiting as usize).saturating_mul(REPLY);

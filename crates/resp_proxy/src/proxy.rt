@@ -1,13 +1,13 @@
 //! The proxy.
 
-ghost use Rattle.std.specs.Prelude.{◌≡◌, ◌≢◌, ◌↔◌, ◌⊎◌, ◌++◌, ℕ, List, None, Some, true, false, [], drop, length, slice_get, take, unwrap_or, IfOk, IfSome, IsErrOf, IsTrue, OnErr, OnOk};
+ghost use Rattle.std.specs.Prelude.{◌≡◌, ◌≢◌, ◌*◌, ◌↔◌, ◌⊎◌, ◌++◌, ℕ, List, None, Some, true, false, [], drop, length, min, slice_get, take, unwrap_or, IfErr, IfOk, IfSome, IsErrOf, IsTrue, OnErr, OnOk};
 ghost use Rattle.resp_board.specs.Boards.{Ask, Fail};
 ghost use Rattle.resp_board.specs.Histories.{nothing_happened, with_given};
-ghost use Rattle.resp_board.specs.Runs.{HasAnsweredSome, HasClosed, HasNoIdLeft, HasOpened, HasOpenedLine, HasRun, KeepsBytes, KeepsOpen, KeepsRun, Runs, WhereRun, bounds_of, clients_on, unsent_on, waiting_for, waiting_on};
+ghost use Rattle.resp_board.specs.Runs.{HasAnsweredSome, HasClosed, HasNoIdLeft, HasOpened, HasOpenedLine, HasRun, KeepsBytes, KeepsOpen, KeepsRun, Runs, WhereRun, bounds_of, clients_on, unsent_on, waiting_count, waiting_for, waiting_on};
 ghost use Rattle.resp_proxy.specs.Clients.{Holds, client_id, is_closing, is_leaving, route_of, waits_for_room};
 ghost use Rattle.resp_proxy.specs.Room.{HasRoom, bounds_by};
 ghost use Rattle.resp_proxy.specs.Failing.{FailsSome, Loses};
-ghost use Rattle.resp_proxy.specs.Probing.{KeepsStep, echo_text, echoed_text};
+ghost use Rattle.resp_proxy.specs.Probing.{KeepsStep, RefusesProbe, echo_text, echoed_text};
 ghost use Rattle.resp_proxy.specs.Replying.{TakesReplies};
 ghost use Rattle.resp_proxy.specs.Taking.{TakesIn};
 ghost use Rattle.resp_proxy.specs.Terms.{with_admitted};
@@ -246,6 +246,9 @@ impl Proxy {
             (board_in self.new))) }
         ensures expected { OnOk result
             (expected_of line.new ≡ expected_of line.old ++ echoed_text word.now) }
+        // The error has its cause in the prober, in a bound or in a failed allocation.
+        ensures refused { IfErr result (RefusesProbe (board_in self.old) (prober_of line.old)
+            (line_of line.old) (echo_text word.now)) }
         ensures unchanged { OnErr result (KeepsRun (board_in self.old) (board_in self.new)) }
         ensures same_expected { OnErr result (expected_of line.new ≡ expected_of line.old) }
         ensures same_prober { prober_of line.new ≡ prober_of line.old }
@@ -281,7 +284,11 @@ impl Proxy {
         ensures given { IfSome (prober_of line.old) (λ who. WhereRun (board_in self.old) (λ h.
             IfSome (waiting_for (board_in self.old) who) (λ text.
             HasRun (board_in self.new) (with_given who text h)))) }
+        // The replies that are expected last stay, one for each probe that waits.
         ensures expected { (gone : List ℕ) × (expected_of line.old ≡ gone ++ expected_of line.new) }
+        ensures kept { IfSome (prober_of line.old) (λ who.
+            IfSome (waiting_count (board_in self.old) who) (λ count.
+            length (expected_of line.new) ≡ min (length (expected_of line.old)) (count * 39))) }
         ensures same_prober { prober_of line.new ≡ prober_of line.old }
         ensures same_line { line_of line.new ≡ line_of line.old }
         ensures same_rules { reply_rules_of line.new ≡ reply_rules_of line.old }
@@ -296,8 +303,8 @@ impl Proxy {
             return;
         };
         let count = text.len();
-        self.board.given(who, count);
         let waiting = self.board.waiting_of(who).unwrap_or(0);
+        self.board.given(who, count);
         line.prober.keep(waiting);
     }
 
@@ -658,6 +665,8 @@ impl Proxy {
         ensures same_bytes { KeepsBytes (board_in self.old) (board_in self.new) }
         ensures all { result ≡ WriteOutcome.All →
             unsent_on (board_in self.new) (line_of line.now) ≡ [] }
+        ensures idle { unsent_on (board_in self.old) (line_of line.now) ≡ [] →
+            result ≡ WriteOutcome.All }
         ensures once { (unsent_on (board_in self.old) (line_of line.now) ≡ []) ⊎
             (W.calls writer.new ≡ count_after 1 (W.calls writer.old)) }
         ensures same_clients { KeepsOpen (board_in self.old) (board_in self.new) }

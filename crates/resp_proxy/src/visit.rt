@@ -1,6 +1,6 @@
 //! Visits of connections.
 
-ghost use Rattle.std.specs.Prelude.{◌≡◌, ◌↔◌, ◌<◌, [], false, length, true, IfErr, IfSome, OnOk};
+ghost use Rattle.std.specs.Prelude.{◌≡◌, ◌↔◌, ◌<◌, None, [], false, length, true, IfErr, IfSome, OnOk};
 ghost use Rattle.resp_board.specs.Runs.{KeepsOpen, KeepsOthers, WhereRun, unsent_on};
 ghost use Rattle.resp_proxy.specs.Clients.{client_id, is_closing, route_of};
 ghost use Rattle.resp_proxy.specs.Leaving.{LeavesRightly};
@@ -173,8 +173,13 @@ impl Proxy {
         ensures told { Tells (line_of line.old) (replied_to self.old) (replied_to self.new)
             (board_in self.old) (board_in self.new) }
         ensures once { R.calls reader.new ≡ count_after 1 (R.calls reader.old) }
+        ensures failed { result.read ≡ None →
+            R.failures reader.new ≡ count_after 1 (R.failures reader.old) }
         ensures all { result.written ≡ WriteOutcome.All →
             unsent_on (board_in self.new) (line_of line.new) ≡ [] }
+        // One write if the bytes of the server were usable and bytes wait.
+        ensures writes { OnOk result.end ((unsent_on (board_in self.new) (line_of line.new) ≡ [] → ⊥) →
+            W.calls writer.new ≡ count_after 1 (W.calls writer.old)) }
         ensures same_prober { prober_of line.new ≡ prober_of line.old }
         ensures same_expected { expected_of line.new ≡ expected_of line.old }
         ensures same_rules { reply_rules_of line.new ≡ reply_rules_of line.old }
@@ -210,6 +215,8 @@ impl Proxy {
         ensures told { Tells (line_of line.old) (replied_to self.old) (replied_to self.new)
             (board_in self.old) (board_in self.new) }
         ensures once { R.calls reader.new ≡ count_after 1 (R.calls reader.old) }
+        ensures failed { result.0 ≡ None →
+            R.failures reader.new ≡ count_after 1 (R.failures reader.old) }
         ensures same_prober { prober_of line.new ≡ prober_of line.old }
         ensures same_expected { expected_of line.new ≡ expected_of line.old }
         ensures same_rules { reply_rules_of line.new ≡ reply_rules_of line.old }
