@@ -1,5 +1,5 @@
 -- A command is carried out.
-use Rattle.std.proofs.Common.{◌≡◌, ◌∙◌, inl, inr, ℕ, true, List, [], ◌∷◌, ◌++◌, take, drop, Option, Some, Result, Ok, Err, ap, refl, subst, sym}
+use Rattle.std.proofs.Common.{◌≡◌, ◌∙◌, inl, inr, ℕ, true, List, [], ◌∷◌, ◌++◌, take, drop, Option, None, Some, Result, Ok, Err, ap, refl, subst, sym}
 use Rattle.std.proofs.lemmas.List.{append-nil, take-append-drop}
 use Rattle.std.specs.Prelude.{MatchOption, OnOk}
 use Rattle.resp_commands.specs.Classes.{HasClass, HasNoClass}
@@ -17,7 +17,8 @@ use Rattle.resp_board.specs.Runs.{HasRun, WhereRun}
 use Rattle.resp_board.specs.declared.board.Board.{Board}
 use Rattle.resp_proxy.specs.declared.route.Route.{Route}
 use Rattle.resp_proxy.specs.declared.error.ClientError.{ClientError}
-use Rattle.resp_proxy.specs.Taking.{AdmitsText, Answers, Carries, Deed, Does, Fits, Passes, Queues, TakesPart}
+use Rattle.resp_proxy.specs.Refusing.{IsLocalName}
+use Rattle.resp_proxy.specs.Taking.{AdmitsText, Answers, Carries, Deed, Does, Fits, IsLocalText, IsNotShared, MayBeAnswered, Passes, Queues, TakesPart}
 use Rattle.resp_proxy.specs.Terms.{IsAdmitted, IsRequestOf, MayBeSent, Terms}
 use Rattle.resp_scan.specs.Whole.{BeginsWith}
 use Rattle.resp_value.specs.Bounds.{Bounds}
@@ -67,19 +68,35 @@ carried-admitted law (Ok x) terms route front piece found old new f a passed =
     (inr (subst (IsAdmitted terms) (name_same a.name f.words.name a.arguments f.words.arguments same) a.admitted)) passed
 carried-admitted law (Err e) terms route front piece found old new f a passed = tt
 
+-- clients share no connection for a command of this class
+pub not-shared : (found : Option Class) (name : List ℕ) (arguments : List (List ℕ)) →
+    MatchOption found (HasNoClass name arguments) (λ class. HasClass name arguments class) → (found ≡ Some class.Shared → ⊥) →
+    IsNotShared name arguments
+not-shared None name arguments has other = inr has
+not-shared (Some c) name arguments has other = inl (c, has, λ e. other (ap Some e))
+
+-- the name of a command that the proxy itself may answer is that of its frame
+pub local-name : NoSpellingBeginsAnother → (limits : Bounds) (front piece : List ℕ) (found : CommandFrame) →
+    (f : IsFrameOfWords limits front piece found) → IsLocalText limits (text_of found.frame) → IsLocalName f.words.name
+local-name law limits front piece found f l =
+    let same : l.name ∷ l.arguments ≡ f.words.name ∷ f.words.arguments =
+    same_words law limits (text_of found.frame) (l.name ∷ l.arguments) (f.words.name ∷ f.words.arguments) l.rest l.begins
+    (whole_text limits (text_of found.frame) f.words.name f.words.arguments f.words.spelled) in
+    subst IsLocalName (name_same l.name f.words.name l.arguments f.words.arguments same) l.local
+
 -- a command was answered
 pub carried-own : (result : Result (Unit {0}) ClientError) (terms : Terms) (route : Route) (answer front piece : List ℕ) (found : CommandFrame)
-    (old new : Board) → IsFrameOfWords terms.rules.limits front piece found →
+    (old new : Board) → (f : IsFrameOfWords terms.rules.limits front piece found) → MayBeAnswered f.words.name f.words.arguments →
     OnOk result (WhereRun old (λ p. HasRun new (with_event (Own route.client answer) p))) → OnOk result (Carries terms route (text_of found.frame) old new)
-carried-own (Ok x) terms route answer front piece found old new f passed = record {
+carried-own (Ok x) terms route answer front piece found old new f reason passed = record {
   name = f.words.name;
   arguments = f.words.arguments;
   spelled = f.words.spelled;
   deed = Answers answer;
-  does = tt;
+  does = reason;
   run = passed;
 }
-carried-own (Err e) terms route answer front piece found old new f passed = tt
+carried-own (Err e) terms route answer front piece found old new f reason passed = tt
 
 request-fits : (terms : Terms) (text sent name : List ℕ) (arguments : List (List ℕ)) (deed : Deed) → IsRequestOf terms text sent (name ∷ arguments) →
     Does terms name arguments sent deed → Fits terms text deed
@@ -90,7 +107,7 @@ request-fits terms text sent name arguments (Queues queued) r (is, allowed) = re
   request = subst (λ s. IsRequestOf terms text s (name ∷ arguments)) (sym is) r;
   allowed = allowed;
 }
-request-fits terms text sent name arguments (Answers answer) r does = record { sent = sent; name = name; arguments = arguments; request = r }
+request-fits terms text sent name arguments (Answers answer) r does = record { sent = sent; name = name; arguments = arguments; request = r; reason = does }
 
 -- a part that is an array was taken
 pub array-part : (terms : Terms) (route : Route) (front piece : List ℕ) (found : CommandFrame) (old new : Board) →

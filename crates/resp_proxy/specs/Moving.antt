@@ -27,6 +27,6 @@ pub record MayLeave (m : Board) (c : Client) : Type 0 where
   pub all : HasAll m (client_id c)
 
 -- The client has one more command, which has this answer. Each other client has the bytes that it had.
-pub record IsAnswered (old new : Board) (who : ClientId) (answer : List ℕ) : Type 0 where
+pub record IsGivenReply (old new : Board) (who : ClientId) (answer : List ℕ) : Type 0 where
   pub run : WhereRun old (λ p. HasRun new (with_event (Own who answer) p))
   pub others : WhereRun old (λ p. KeepsOthers who old new)

@@ -21,6 +21,10 @@ use Rattle.resp_proxy.specs.Terms.{IsRequestOf, Terms}
 abbrev pub SameLetters : List ℕ → List ℕ → Type 0
 SameLetters name other = map to_ascii_lowercase name ≡ map to_ascii_lowercase other
 
+-- the name is that of a command to which the proxy itself may reply although clients share a connection for it
+abbrev pub IsLocalName : List ℕ → Type 0
+IsLocalName name = SameLetters name (codes "INFO") ⊎ SameLetters name (codes "PING")
+
 -- the error names the word after the name, if there is one
 abbrev pub NamesFirst : Option (Bor (List ℕ)) → Option (Bor (List ℕ)) → Type 0
 NamesFirst first shown = MatchOption first (shown ≡ None) (λ word. MatchOption shown ⊥ (λ text. SameLetters word.now text.now))

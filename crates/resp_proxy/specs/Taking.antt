@@ -1,5 +1,5 @@
 -- The commands that are taken from the bytes of a client.
-use Rattle.std.specs.Prelude.{◌≡◌, ℕ, ◌≤◌, List, [], ◌∷◌, ◌++◌, length, map, take, Ok, Option, None, Some, MatchOption, OnOk, OnErr, IfErr, Result, true}
+use Rattle.std.specs.Prelude.{◌≡◌, ◌≢◌, ◌⊎◌, ℕ, ◌≤◌, List, [], ◌∷◌, ◌++◌, length, map, take, Ok, Option, None, Some, MatchOption, OnOk, OnErr, IfErr, Result, true}
 use Rattle.std.specs.List.{AllByRecursion, concat}
 use Rattle.resp_frames.specs.declared.begun.Begun.{Begun}
 use Rattle.resp_frames.specs.Framing.{HasBegun, IsReady}
@@ -8,9 +8,13 @@ use Rattle.resp_board.specs.Boards.{Ask, Own}
 use Rattle.resp_board.specs.Histories.{History, with_event}
 use Rattle.resp_board.specs.Runs.{HasRun, KeepsOpen, KeepsRun, WhereRun}
 use Rattle.resp_board.specs.declared.board.Board.{Board}
+use Rattle.resp_commands.specs.Classes.{HasClass, HasNoClass}
+use Rattle.resp_commands.specs.declared.command.Class.{Class}
+use Rattle.resp_commands.specs.declared.command.Class.TheVariants as class
 use Rattle.resp_proxy.specs.Clients.{Holds, is_closing}
 use Rattle.resp_proxy.specs.Leaving.{NeedsOwn}
-use Rattle.resp_proxy.specs.Refusing.{Refuses}
+use Rattle.resp_proxy.specs.Refusing.{IsLocalName, Refuses}
+use Rattle.resp_value.specs.Bounds.{Bounds}
 use Rattle.resp_proxy.specs.declared.part.Part.{Part}
 use Rattle.resp_proxy.specs.declared.part.Part.TheVariants.{Aside, Partial, Whole}
 use Rattle.resp_proxy.specs.Terms.{IsAdmitted, IsNoRequest, IsRequestOf, MayBeSent, Terms}
@@ -51,15 +55,24 @@ pub record IsQueued (terms : Terms) (text sent : List ℕ) : Type 0 where
   pub request : IsRequestOf terms text sent (name ∷ arguments)
   pub allowed : MayBeSent terms name arguments
 
--- the text is a command
+-- the table has the command in another class than that of commands for which clients share a connection, or does not have it
+abbrev pub IsNotShared : List ℕ → List (List ℕ) → Type 0
+IsNotShared name arguments = ((c : Class) × HasClass name arguments c × (c ≢ class.Shared)) ⊎ HasNoClass name arguments
+
+-- clients share no connection for the command, or its name is INFO or PING
+abbrev pub MayBeAnswered : List ℕ → List (List ℕ) → Type 0
+MayBeAnswered name arguments = IsNotShared name arguments ⊎ IsLocalName name
+
+-- the text is a command that the proxy itself may answer
 pub record IsAnswered (terms : Terms) (text : List ℕ) : Type 0 where
   pub sent : List ℕ
   pub name : List ℕ
   pub arguments : List (List ℕ)
   pub request : IsRequestOf terms text sent (name ∷ arguments)
+  pub reason : MayBeAnswered name arguments
 
--- The text has no words, and nothing was done; or it is a command that may be sent, and it was queued; or it is a command, and
--- it was answered.
+-- The text has no words, and nothing was done; or it is a command that may be sent, and it was queued; or it is a command that
+-- the proxy itself may answer, and it was answered.
 abbrev pub Fits : Terms → List ℕ → Deed → Type 0
 Fits terms text Passes = IsNoRequest terms text
 Fits terms text (Queues sent) = IsQueued terms text sent
@@ -86,6 +99,14 @@ pub record Takes (terms : Terms) (route : Route) (bytes after : List ℕ) (old n
   pub commands : AllByRecursion (IsTaken terms) taken
   pub run : WhereRun old (λ p. HasRun new (with_taken route taken p))
 
+-- the text begins with a command of a name to which the proxy itself may reply although clients share a connection for it
+pub record IsLocalText (limits : Bounds) (text : List ℕ) : Type 0 where
+  pub name : List ℕ
+  pub arguments : List (List ℕ)
+  pub rest : List ℕ
+  pub begins : BeginsWith limits text (command_of (name ∷ arguments)) rest
+  pub local : IsLocalName name
+
 -- the text begins with a command whose name is admitted
 pub record AdmitsText (terms : Terms) (text : List ℕ) : Type 0 where
   pub name : List ℕ
@@ -94,11 +115,11 @@ pub record AdmitsText (terms : Terms) (text : List ℕ) : Type 0 where
   pub begins : BeginsWith terms.rules.limits text (command_of (name ∷ arguments)) rest
   pub admitted : IsAdmitted terms name
 
--- a command of these words and this text was queued, if it may be sent, or answered
+-- a command of these words and this text was queued, if it may be sent, or answered, if the proxy itself may answer it
 abbrev pub Does : Terms → List ℕ → List (List ℕ) → List ℕ → Deed → Type 0
 Does terms name arguments text Passes = ⊥
 Does terms name arguments text (Queues sent) = (sent ≡ text) × MayBeSent terms name arguments
-Does terms name arguments text (Answers answer) = Unit {0}
+Does terms name arguments text (Answers answer) = MayBeAnswered name arguments
 
 -- the text is a command, which was queued, if it may be sent, or answered
 pub record Carries (terms : Terms) (route : Route) (text : List ℕ) (old new : Board) : Type 0 where

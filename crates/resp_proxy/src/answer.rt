@@ -145,7 +145,7 @@ fn stays(route: Route, asked: DecidingWords<'_>) -> bool {
 }
 
 /// Returns whether a word is this one, in upper or lower case.
-fn is(word: &[u8], wanted: &[u8]) -> bool
+pub(crate) fn is(word: &[u8], wanted: &[u8]) -> bool
     ensures { IsTrue result → SameLetters word.now wanted.now }
 {
     word.eq_ignore_ascii_case(wanted)

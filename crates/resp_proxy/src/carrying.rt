@@ -1,6 +1,6 @@
 //! Carries out the commands of a client.
 
-ghost use Rattle.std.specs.Prelude.{◌≡◌, ℕ, List, None, Some, IfErr, IsTrue, OnErr, OnOk};
+ghost use Rattle.std.specs.Prelude.{◌≡◌, ◌↔◌, ℕ, List, None, Some, IfErr, IsTrue, OnErr, OnOk};
 ghost use Rattle.resp_frames.specs.Commands.{IsFrameOfWords};
 ghost use Rattle.resp_frames.specs.Texts.{text_of};
 ghost use Rattle.resp_board.specs.Boards.{Ask, Own};
@@ -77,7 +77,8 @@ fn answer_or_send(
 {
     no_spelling_begins_another();
     if is_shared(command) {
-        return match local_answer(alloc, settings, counts, board, command) {
+        let limits = intake.frames.limits();
+        return match local_answer(alloc, &limits, settings.local_ping, counts, board, command) {
             Ok(Some(answer)) => own(board, route.client, &answer),
             Ok(None) => forward(board, route, command.frame.text()),
             Err(AllocError) => Err(ClientError::OutOfMemory),
@@ -107,7 +108,7 @@ fn is_sent(command: &CommandFrame) -> bool
 /// Returns whether clients may share a connection for a command.
 #[inline(always)]
 fn is_shared(command: &CommandFrame) -> bool
-    ensures { IsTrue result → command.now.words.class ≡ Some Class.Shared }
+    ensures { IsTrue result ↔ (command.now.words.class ≡ Some Class.Shared) }
 {
     command.words.class == Some(Class::Shared)
 }

@@ -1,26 +1,35 @@
 //! Replies of the proxy itself to commands that the server would reply to.
 
+ghost use Rattle.std.specs.Prelude.{IfOk, IsSome};
+ghost use Rattle.resp_frames.specs.Texts.{text_of};
+ghost use Rattle.resp_proxy.specs.Taking.{IsLocalText};
+
+use crate::answer::is;
 use crate::counts::{Numbers, ProxyCounts};
 use crate::latency::Times;
-use crate::settings::Settings;
 use resp_board::Board;
 use resp_frames::CommandFrame;
 use resp_scan::whole;
+use resp_value::limits::Limits;
 use std::alloc::{AllocError, Global};
 
 /// The index of the name in the usual text of a command that has one or two words and a name of
 /// four bytes.
 const NAME: usize = 8;
 
-/// Returns the reply of the proxy to `INFO proxy`, and to PING if the settings ask for it. Returns `None` if
-/// the command is for the server.
+/// Returns the reply of the proxy to `INFO proxy`, and to PING if `local_ping` is true. Returns `None`
+/// if the command is for the server.
 pub(crate) fn local_answer(
     alloc: Global,
-    settings: &Settings,
+    limits: &Limits,
+    local_ping: bool,
     counts: &ProxyCounts,
     board: &Board,
     command: &CommandFrame,
-) -> Result<Option<Vec<u8>>, AllocError> {
+) -> Result<Option<Vec<u8>>, AllocError>
+    ensures { IfOk result (λ answer. IsSome answer →
+        IsLocalText limits.now (text_of command.now.frame)) }
+{
     if !may_be_answered(command) {
         return Ok(None);
     }
@@ -28,10 +37,10 @@ pub(crate) fn local_answer(
         return Ok(None);
     };
     if name.eq_ignore_ascii_case(b"INFO") {
-        return info(alloc, settings, counts, board, command.frame.text());
+        return info(alloc, limits, counts, board, command.frame.text());
     }
-    if settings.local_ping && name.eq_ignore_ascii_case(b"PING") {
-        return pong(alloc, settings, command.frame.text());
+    if local_ping && name.eq_ignore_ascii_case(b"PING") {
+        return pong(alloc, limits, command.frame.text());
     }
     Ok(None)
 }
@@ -50,17 +59,19 @@ pub(crate) fn may_be_answered(command: &CommandFrame) -> bool {
 /// Returns the reply to INFO if its word is `proxy`.
 fn info(
     alloc: Global,
-    settings: &Settings,
+    limits: &Limits,
     counts: &ProxyCounts,
     board: &Board,
     text: &[u8],
-) -> Result<Option<Vec<u8>>, AllocError> {
-    let Some(words) = whole::command(text, &settings.limits) else {
+) -> Result<Option<Vec<u8>>, AllocError>
+    ensures { IfOk result (λ answer. IsSome answer → IsLocalText limits.now text.now) }
+{
+    let Some(words) = whole::command(text, limits) else {
         return Ok(None);
     };
     let mut arguments = words.arguments;
     let section = arguments.next().unwrap_or(b"");
-    if !words.name.eq_ignore_ascii_case(b"INFO") || !section.eq_ignore_ascii_case(b"proxy") {
+    if !is(words.name, b"INFO") || !is(section, b"proxy") {
         return Ok(None);
     }
     let section = section_of(alloc, counts, board)?;
@@ -95,11 +106,13 @@ fn section_of(alloc: Global, counts: &ProxyCounts, board: &Board) -> Result<Stri
 }
 
 /// Returns the reply to PING: PONG, or its word.
-fn pong(alloc: Global, settings: &Settings, text: &[u8]) -> Result<Option<Vec<u8>>, AllocError> {
-    let Some(words) = whole::command(text, &settings.limits) else {
+fn pong(alloc: Global, limits: &Limits, text: &[u8]) -> Result<Option<Vec<u8>>, AllocError>
+    ensures { IfOk result (λ answer. IsSome answer → IsLocalText limits.now text.now) }
+{
+    let Some(words) = whole::command(text, limits) else {
         return Ok(None);
     };
-    if !words.name.eq_ignore_ascii_case(b"PING") {
+    if !is(words.name, b"PING") {
         return Ok(None);
     }
     let mut arguments = words.arguments;

@@ -3,7 +3,7 @@
 ghost use Rattle.std.specs.Prelude.{◌≡◌, ◌↔◌, ◌≤◌, drop, false, length, IfErr, IfOk, IsErrOf, IsTrue, OnErr, OnOk};
 ghost use Rattle.resp_board.specs.Runs.{ClientIsFull, HasClosed, KeepsOpen, KeepsRun};
 ghost use Rattle.resp_proxy.specs.Clients.{Holds, client_id, is_closing, is_leaving, route_of, waits_for_room};
-ghost use Rattle.resp_proxy.specs.Moving.{IsAnswered, MayLeave, name_of, number_of};
+ghost use Rattle.resp_proxy.specs.Moving.{IsGivenReply, MayLeave, name_of, number_of};
 ghost use Rattle.resp_proxy.specs.Hellos.{IsReplyWithNumber, own_reply};
 ghost use Rattle.resp_value.specs.Canonical.{canonical_text};
 ghost use Rattle.resp_proxy.specs.Proxies.{board_in, replied_to, terms_of};
@@ -125,7 +125,7 @@ impl Proxy {
         requires { used ≤ length (waits_for_room client.old) }
         // The client got the replies to all commands before.
         ensures all { OnOk result (MayLeave (board_in self.old) client.old) }
-        ensures answered { OnOk result (IsAnswered (board_in self.old) (board_in self.new)
+        ensures answered { OnOk result (IsGivenReply (board_in self.old) (board_in self.new)
             (client_id client.old) reply.now) }
         ensures route { OnOk result
             (route_of client.new ≡ route_to line.now (client_id client.old)) }
