@@ -85,10 +85,10 @@ def zip_of(entries, time):
     return file.getvalue()
 
 
-def wheel(name, version, tag, metadata, entries, time):
-    """Returns a wheel: the entries with the metadata, the tag and the list of all files."""
+def wheel(name, version, tags, metadata, entries, time):
+    """Returns a wheel: the entries with the metadata, the tags and the list of all files."""
     info = f"{name}-{version}.dist-info"
-    about = f"Wheel-Version: 1.0\nGenerator: resp\nRoot-Is-Purelib: false\nTag: {tag}\n"
+    about = "Wheel-Version: 1.0\nGenerator: resp\nRoot-Is-Purelib: false\n" + "".join(f"Tag: {tag}\n" for tag in tags)
     files = [*entries, Entry(f"{info}/METADATA", metadata.encode()), Entry(f"{info}/WHEEL", about.encode())]
     rows = []
     for it in files:

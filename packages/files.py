@@ -15,12 +15,21 @@ HERE = os.path.dirname(os.path.realpath(__file__))
 TOP = os.path.dirname(HERE)
 SONAME = "libresp.so.0"
 ABOUT = "share/doc/resp"
-# The processors that the program and the library are compiled for: all 64-bit x86 processors. The gate names those of `rt ci`.
-PROCESSOR = os.environ.get("RESP_PROCESSOR") or "x86-64"
+# The names of all files of an installation.
+LIST = f"{ABOUT}/FILES"
+# The processors that the program and the library are compiled for: by default those of `rt ci`, with which the gate proves
+# and builds what it tests.
+PROCESSOR = os.environ.get("RESP_PROCESSOR") or "x86-64-v2"
+# The target of the library in the inspector.
+WASM = "wasm64"
 # The crates that are installed, with the file that each is built as.
 MADE = {"resp": "resp", "resp_c": "libresp_c.a"}
 EXPORTS = "RESP_0 { global: resp_*; local: *; };\n"
 CC = os.environ.get("CC", "cc")
+# Our reader under programs over hiredis: the calls that it exports, the numbers of its layouts, and its folder.
+HIREDIS_EXPORTS = "{ global: redisReader*; local: *; };\n"
+HIREDIS_LAYOUTS = (0, 1)
+HIREDIS = f"{TOP}/bindings/hiredis"
 
 
 def content(path):
@@ -142,6 +151,36 @@ def shared(archive, compiler=CC, tool="strip"):
         return stripped(f"{room}/shared", "--strip-unneeded", tool=tool)
 
 
+def preloaded(archive, compiler=CC, tool="strip"):
+    """Returns the shared library that replaces the reader of hiredis in a process."""
+    includes = [f"-I{HIREDIS}/layouts", f"-I{TOP}/include"]
+    words = [compiler, "-std=c11", "-O2", "-fPIC", f"-ffile-prefix-map={TOP}=.", *includes]
+    with tempfile.TemporaryDirectory() as room:
+        made = [f"{room}/preload.o"]
+        call(*words, "-c", f"{HIREDIS}/preload.c", "-o", made[0])
+        for layout in HIREDIS_LAYOUTS:
+            for name in ("read.c", "layouts/fits.c"):
+                made.append(f"{room}/{os.path.basename(name)}-{layout}.o")
+                call(*words, f"-DHIREDIS_LAYOUT={layout}", "-c", f"{HIREDIS}/{name}", "-o", made[-1])
+        with open(f"{room}/exports", "w", encoding="ascii") as file:
+            file.write(HIREDIS_EXPORTS)
+        hard = ["-Wl,-z,relro", "-Wl,-z,now", "-Wl,-z,noexecstack", "-Wl,--no-undefined", "-Wl,--build-id=none"]
+        linked = ["-shared", f"-Wl,--version-script,{room}/exports", "-Wl,--gc-sections", *hard, *made, archive, "-lm"]
+        call(compiler, *linked, "-o", f"{room}/shared")
+        return stripped(f"{room}/shared", "--strip-unneeded", tool=tool)
+
+
+def hiredis_files(archive, libraries="lib", **how):
+    """Returns the files that put our reader under programs over hiredis."""
+    script = content(f"{HIREDIS}/resp-preload").replace(b"LIBRARIES", libraries.encode())
+    return [
+        Entry("bin/resp-preload", script, 0o755),
+        Entry(f"{libraries}/resp/libresp-hiredis.so", preloaded(archive, **how)),
+        Entry("share/resp/hiredis/read.c", content(f"{HIREDIS}/read.c")),
+        Entry("share/man/man1/resp-preload.1", content(f"{HERE}/man/resp-preload.1")),
+    ]
+
+
 def pkg_config(libraries):
     """Returns resp.pc for a folder of libraries below the prefix. It finds the prefix from its own place."""
     up = "/".join([".."] * (libraries.count("/") + 2))
@@ -164,14 +203,6 @@ def program_files(path, completions_of_zsh="share/zsh/site-functions"):
     ]
 
 
-def service_files(to=ABOUT):
-    """Returns the unit of systemd for the proxy, whose program is in /usr/bin, and a sample of its settings."""
-    return [
-        Entry("lib/systemd/system/resp-proxy@.service", content(f"{HERE}/systemd/resp-proxy@.service")),
-        Entry(f"{to}/examples/resp-proxy.conf", content(f"{HERE}/systemd/resp-proxy.conf")),
-    ]
-
-
 def shared_files(archive, libraries="lib", **how):
     """Returns the file that programs need to run with the shared library."""
     return [Entry(f"{libraries}/{SONAME}", shared(archive, **how))]
@@ -186,20 +217,6 @@ def development_files(archive, libraries="lib", tool="strip"):
         Entry("include/resp.h", content(f"{TOP}/include/resp.h")),
         Entry("share/man/man3/libresp.3", content(f"{HERE}/man/libresp.3")),
     ]
-
-
-def pages(names, to):
-    """Returns these pages of the repository, below a folder."""
-    return [Entry(f"{to}/{os.path.basename(name)}", content(f"{TOP}/{name}")) for name in names]
-
-
-def documents(to=ABOUT):
-    """Returns the pages for users, with the files that they describe."""
-    left = "DECISIONS.md"
-    names = sorted(f"docs/{it}" for it in os.listdir(f"{TOP}/docs") if it.endswith((".md", ".svg")) and it != left)
-    samples = [f"{folder}/{it}" for folder in ("stunnel", "kubernetes") for it in sorted(os.listdir(f"{TOP}/docs/{folder}"))]
-    more = [Entry(f"{to}/{it}", content(f"{TOP}/docs/{it}")) for it in samples]
-    return [*pages(["README.md", "CHANGELOG.md", "SECURITY.md", *names], to), *more]
 
 
 def notices():
@@ -244,21 +261,49 @@ def root():
     return os.environ.get("DESTDIR", "") + os.path.abspath(os.environ.get("PREFIX") or "/usr/local")
 
 
-def listed(entries):
-    """Returns a file with the names of all files that are installed."""
-    names = sorted([it.name for it in entries] + [f"{ABOUT}/FILES"])
-    return Entry(f"{ABOUT}/FILES", "".join(f"{name}\n" for name in names).encode())
+def installed(root):
+    """Returns the names of the files that were installed below a folder, and of the folders that were made for them, each
+    with a slash at its end."""
+    with contextlib.suppress(FileNotFoundError):
+        return content(f"{root}/{LIST}").decode().splitlines()
+    return []
 
 
-def take_away(root):
-    """Removes the files that were installed below a folder."""
-    try:
-        names = content(f"{root}/{ABOUT}/FILES").decode().split()
-    except FileNotFoundError:
-        sys.exit(f"build: resp is not installed in {root}")
+def missing_folders(names, root):
+    """Returns the folders that have to be made for files below a folder, each with a slash at its end. The folders above
+    it begin with `..`."""
+    found = {os.path.dirname(os.path.abspath(f"{root}/{name}")) for name in names}
+    for folder in [*found]:
+        while not os.path.isdir(folder):
+            found.add(folder)
+            folder = os.path.dirname(folder)
+    return sorted(f"{os.path.relpath(it, root)}/" for it in found if not os.path.isdir(it))
+
+
+def install(entries, root):
+    """Installs files below a folder, in place of those that were installed there earlier, and notes them."""
+    before = installed(root)
+    # (an earlier version did not note that it made the folder of the list)
+    names = {LIST, f"{ABOUT}/", *(it.name for it in entries)}
+    names |= {*missing_folders(names, root), *(it for it in before if it.endswith("/"))}
+    put([*entries, Entry(LIST, "".join(f"{name}\n" for name in sorted(names)).encode())], root)
+    take_away([it for it in before if it not in names], root)
+
+
+def take_away(names, root):
+    """Removes files below a folder, and then folders that are empty."""
     for name in names:
-        with contextlib.suppress(FileNotFoundError):
-            os.remove(f"{root}/{name}")
-    with contextlib.suppress(OSError):
-        os.rmdir(f"{root}/{ABOUT}")
+        if not name.endswith("/"):
+            with contextlib.suppress(FileNotFoundError):
+                os.remove(f"{root}/{name}")
+    folders = [os.path.abspath(f"{root}/{name}") for name in names if name.endswith("/")]
+    for folder in sorted(folders, reverse=True):
+        with contextlib.suppress(OSError):
+            os.rmdir(folder)
+
+
+def uninstall(root):
+    """Removes the files that were installed below a folder, and the folders that were made for them."""
+    names = installed(root) or sys.exit(f"build: resp is not installed in {root}")
+    take_away(names, root)
     print(f"resp is removed from {root}")

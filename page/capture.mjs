@@ -29,6 +29,9 @@ class Numbers {
   }
 }
 
+/** How many columns a byte takes: one for a printable byte, two for \r and \n, three for two hexadecimal digits. */
+export const columns = (byte) => (byte === 13 || byte === 10 ? 2 : byte >= 32 && byte < 127 ? 1 : 3);
+
 /** Where the rows of the picture begin: after each LF, and after `width` bytes. */
 export function rowsOf(bytes, width) {
   const { length } = bytes;
@@ -41,8 +44,7 @@ export function rowsOf(bytes, width) {
       starts = larger;
     }
     starts[count++] = start;
-    const end = Math.min(start + width, length);
-    for (at = start; at < end && bytes[at++] !== 10; );
+    for (let used = columns(bytes[at]); at < length && used <= width; used += columns(bytes[at])) if (bytes[at++] === 10) break;
   }
   return starts.slice(0, count);
 }

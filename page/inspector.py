@@ -10,9 +10,11 @@ PARTS = ["library", "capture", "text", "conversation", "rows", "examples", "view
 WORKER = ["library", "capture", "worker"]
 # The module is compressed, and the page expands it.
 BEGIN = """
-const packed = Uint8Array.from(atob("@MODULE@"), (character) => character.charCodeAt(0));
-const stream = new Blob([packed]).stream().pipeThrough(new DecompressionStream("gzip"));
-await start(new Uint8Array(await new Response(stream).arrayBuffer()));
+await begin(async () => {
+  const packed = Uint8Array.from(atob("@MODULE@"), (character) => character.charCodeAt(0));
+  const stream = new Blob([packed]).stream().pipeThrough(new DecompressionStream("gzip"));
+  return new Uint8Array(await new Response(stream).arrayBuffer());
+});
 """
 
 

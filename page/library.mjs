@@ -33,20 +33,28 @@ export class RespError extends Error {
   }
 }
 
+// The smallest module with 64-bit memory.
+const SMALLEST = Uint8Array.of(0, 0x61, 0x73, 0x6d, 1, 0, 0, 0, 5, 3, 1, 4, 0);
+
+/** Returns whether this engine has 64-bit memory for WebAssembly, which the library needs. */
+export const hasMemory64 = () => typeof WebAssembly === 'object' && WebAssembly.validate(SMALLEST);
+
 /** Loads the library from the bytes of its module. */
 export async function load(module) {
   const { instance } = await WebAssembly.instantiate(module, {});
   return new Library(instance.exports);
 }
 
-/** The calls of the module, and its memory. */
+/** The calls of the module, and its memory. One library serves any number of scanners. */
 export class Library {
   constructor(calls) {
     this.calls = calls;
     this.top = Number(calls.__heap_base.value);
-    this.piece = this.reserve(PIECE_BYTES);
-    this.events = this.reserve(EVENTS * EVENT_BYTES);
-    this.scanned = this.reserve(16);
+    // Memory that was given back, by its size.
+    this.unused = new Map();
+    // For each scan that is running inside another one: memory for a piece and its events.
+    this.areas = [];
+    this.running = 0;
     this.number = this.reserve(8);
     this.limits = this.reserve(48);
     this.refresh();
@@ -59,6 +67,27 @@ export class Library {
     const missing = this.top - this.calls.memory.buffer.byteLength;
     if (missing > 0) this.grow(Math.ceil(missing / PAGE_BYTES));
     return at;
+  }
+
+  /** Returns memory of this size, which `give` returns for another call. */
+  take(size, alignment) {
+    return this.unused.get(size)?.pop() ?? this.reserve(size, alignment);
+  }
+
+  give(at, size) {
+    if (!this.unused.has(size)) this.unused.set(size, []);
+    this.unused.get(size).push(at);
+  }
+
+  /** Returns the memory for a scan, until `leave` is called. */
+  enter() {
+    const level = this.running++;
+    this.areas[level] ??= { piece: this.reserve(PIECE_BYTES), events: this.reserve(EVENTS * EVENT_BYTES), scanned: this.reserve(16) };
+    return this.areas[level];
+  }
+
+  leave() {
+    this.running--;
   }
 
   // Some engines take the number of pages as a number, others as a BigInt.
@@ -90,10 +119,16 @@ export class Scanner {
   constructor(library, version = 3, limits = {}) {
     this.library = library;
     this.size = Number(library.calls.resp_scanner_size());
-    this.memory = library.reserve(this.size, Number(library.calls.resp_scanner_align()));
-    this.handle = library.reserve(8);
+    this.memory = library.take(this.size, Number(library.calls.resp_scanner_align()));
+    this.handle = library.take(8);
     library.view.setBigUint64(this.handle, BigInt(this.memory), true);
     this.begin(version, limits);
+  }
+
+  /** Gives its memory back. The scanner is not used any more. */
+  end() {
+    this.library.give(this.memory, this.size);
+    this.library.give(this.handle, 8);
   }
 
   /** Begins anew, as a new scanner. */
@@ -114,27 +149,38 @@ export class Scanner {
    * error, or 0. Stops when `visit` returns false.
    */
   scan(bytes, visit, from = 0, to = bytes.length) {
+    const area = this.library.enter();
+    try {
+      let at = from;
+      do {
+        const end = Math.min(at + PIECE_BYTES, to);
+        const cause = this.scanPiece(area, bytes.subarray(at, end), visit, at);
+        if (cause !== 0) return Math.max(cause, 0);
+        at = end;
+      } while (at < to);
+      return 0;
+    } finally {
+      this.library.leave();
+    }
+  }
+
+  // Reads a piece that begins at `from` of the bytes. Returns the number of the error, -1 if `visit` stopped, or 0. A
+  // visit may reserve memory, so the words are looked up anew after it.
+  scanPiece(area, piece, visit, from) {
     const { library } = this;
-    const { calls } = library;
-    let at = from;
-    do {
-      const piece = bytes.subarray(at, Math.min(at + PIECE_BYTES, to));
-      library.bytes.set(piece, library.piece);
-      let offset = 0, count = EVENTS;
-      while (count === EVENTS) {
-        const cause = calls.resp_scanner_scan(BigInt(this.handle), BigInt(library.piece + offset),
-          BigInt(piece.length - offset), BigInt(library.events), BigInt(EVENTS), BigInt(library.scanned));
-        const { words } = library;
-        count = words[library.scanned >> 2];
-        let index = library.events >> 2;
-        for (let event = 0; event < count; event++, index += 12) {
-          if (visit(words, index, at + offset) === false) return 0;
-          offset += words[index + 6];
-        }
-        if (cause) return cause;
+    library.bytes.set(piece, area.piece);
+    let offset = 0, count = EVENTS;
+    while (count === EVENTS) {
+      const cause = library.calls.resp_scanner_scan(BigInt(this.handle), BigInt(area.piece + offset), BigInt(piece.length - offset),
+        BigInt(area.events), BigInt(EVENTS), BigInt(area.scanned));
+      count = library.words[area.scanned >> 2];
+      let index = area.events >> 2;
+      for (let event = 0; event < count; event++, index += 12) {
+        if (visit(library.words, index, from + offset) === false) return -1;
+        offset += library.words[index + 6];
       }
-      at += piece.length;
-    } while (at < to);
+      if (cause) return cause;
+    }
     return 0;
   }
 
@@ -175,10 +221,17 @@ export const UNPAIRED = { 16: 'answered by a reply or a push for each channel', 
 export class Pairing {
   constructor(library) {
     this.library = library;
-    this.at = library.reserve(PAIRING_BYTES);
-    this.version = library.reserve(8);
-    this.words = library.reserve(2 * WORD_BYTES);
+    this.at = library.take(PAIRING_BYTES);
+    this.version = library.take(8);
+    this.words = library.take(2 * WORD_BYTES);
     library.calls.resp_pairing_init(BigInt(this.at));
+  }
+
+  /** Gives its memory back. The pairing is not used any more. */
+  end() {
+    this.library.give(this.at, PAIRING_BYTES);
+    this.library.give(this.version, 8);
+    this.library.give(this.words, 2 * WORD_BYTES);
   }
 
   /** Returns how a command of these words is answered: 0 by one reply, 2 or 3 for a HELLO, or a key of UNPAIRED. */

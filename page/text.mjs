@@ -60,6 +60,12 @@ export function glyph(byte) {
   return `\\x${byte.toString(16).padStart(2, '0')}`;
 }
 
+/** What the cell of a byte shows: its glyph, or its two hexadecimal digits. */
+export function cell(byte) {
+  const text = glyph(byte);
+  return text.length > 2 ? { text: text.slice(2), isHex: true } : { text, isHex: false };
+}
+
 /** Bytes as text with escapes, which `fromEscapes` reads. */
 export function toEscapes(bytes) {
   return Array.from(bytes, (byte) => (byte === 92 ? '\\\\' : glyph(byte)) + (byte === 10 ? '\n' : '')).join('').trimEnd();
@@ -92,6 +98,9 @@ export function named(bytes) {
   }
   return parts.join('  ') || 'no byte';
 }
+
+/** The key of a pair in front of its value. */
+export const keyText = (bytes, key) => (key.type.endsWith(' string') && !key.format ? quoted(contentOf(bytes, key)) : summary(bytes, key));
 
 /** A node of a tree in one line. */
 export function summary(bytes, node) {

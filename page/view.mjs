@@ -1,7 +1,7 @@
 // The page: fields, the picture of the bytes, the tree, the cut and the conversation.
-import { load, STANDARD } from './library.mjs';
+import { hasMemory64, load, STANDARD } from './library.mjs';
 import { BYTE, Capture, index, nodeAt, rowsOf } from './capture.mjs';
-import { explain, fromBase64, fromEscapes, fromHex, glyph, named, summary, toBase64, toEscapes, toJson } from './text.mjs';
+import { cell, explain, fromBase64, fromEscapes, fromHex, keyText, named, summary, toBase64, toEscapes, toJson } from './text.mjs';
 import { converse } from './conversation.mjs';
 import { Rows } from './rows.mjs';
 import { EXAMPLES, TALK } from './examples.mjs';
@@ -12,6 +12,8 @@ const CLASSES = Object.fromEntries(Object.entries(BYTE).map(([name, number]) => 
 const SMALL = 1_000_000;
 const MOST_IN_LINK = 16_384;
 const MOST_LINES = 50_000;
+// The room for a scroll bar, in pixels.
+const SCROLL_BAR = 20;
 // The values of a shorter input are open at first.
 const MOST_OPEN = 4096;
 
@@ -49,8 +51,12 @@ class Page {
     return { version: Number($('version').value), limits };
   }
 
+  // How many columns a row of the picture has: as many as fit, from 16 to 64.
   get width() {
-    return matchMedia('(max-width: 800px)').matches ? 32 : 64;
+    const row = $('bytes').appendChild(element('div', 'row', element('span', 'place'), element('span', 'byte', '0'.repeat(10))));
+    const [place, ten] = Array.from(row.children, (it) => it.getBoundingClientRect().width);
+    row.remove();
+    return Math.min(64, Math.max(16, Math.floor((10 * ($('bytes').clientWidth - place - SCROLL_BAR)) / ten)));
   }
 
   listen() {
@@ -225,7 +231,8 @@ class Page {
     if (this.capture.valueAt(from) % 2) drawn.classList.add('other');
     for (let byte = from; byte < to; byte++) {
       const kind = CLASSES[this.kinds[byte - this.kindsFrom]];
-      const span = element('span', `byte ${kind}`, glyph(this.bytes[byte]));
+      const { text, isHex } = cell(this.bytes[byte]);
+      const span = element('span', `byte ${kind}${isHex ? ' hex' : ''}`, text);
       span.dataset.byte = byte;
       span.title = `byte ${byte}: ${this.bytes[byte]}, 0x${this.bytes[byte].toString(16).padStart(2, '0')}`;
       if (this.lit && this.lit.from <= byte && byte < this.lit.to) span.classList.add('lit');
@@ -315,11 +322,12 @@ class Page {
   }
 
   drawNode(row) {
-    const { value, depth, node, closed } = this.lineAt(row);
+    const { value, depth, node, key, closed } = this.lineAt(row);
     const opens = node.members?.length > 0;
     const isCut = closed ? value >= this.capture.ends.length : node.whole === false;
     const twist = element('span', 'twist', opens ? (closed || node.isClosed ? '▸' : '▾') : '');
-    const drawn = element('div', 'node', twist, element('span', 'what', summary(this.bytes, node) + (isCut ? ' (incomplete)' : '')));
+    const text = `${key ? `${keyText(this.bytes, key)} → ` : ''}${summary(this.bytes, node)}${isCut ? ' (incomplete)' : ''}`;
+    const drawn = element('div', 'node', twist, element('span', 'what', text));
     const { to } = closed ? this.capture.bounds(value) : node;
     drawn.append(element('span', 'where', `${node.from.toLocaleString('en')}, ${plural(to - node.from, 'byte')}`));
     drawn.style.paddingLeft = `${2 * depth}ch`;
@@ -327,20 +335,20 @@ class Page {
     drawn.setAttribute('role', 'treeitem');
     drawn.setAttribute('aria-level', depth + 1);
     if (opens) drawn.setAttribute('aria-expanded', String(!(closed || node.isClosed)));
-    if (this.lit?.from === node.from && (this.lit.to === node.to || closed)) drawn.classList.add('lit');
-    if (this.chosen && this.chosen.from === node.from && this.chosen.type === node.type) drawn.classList.add('here');
+    if (isSame(this.lit, key) || (this.lit?.from === node.from && (this.lit.to === node.to || closed))) drawn.classList.add('lit');
+    if (isSame(this.chosen, node) || isSame(this.chosen, key)) drawn.classList.add('here');
     return drawn;
   }
 
   // Flattens the open nodes of a value into lines.
   linesOf(root) {
     const lines = [];
-    const add = (node, depth) => {
+    const add = ({ node, key }, depth) => {
       if (lines.length >= MOST_LINES) return;
-      lines.push({ node, depth });
-      if (node.members && !node.isClosed) for (const member of node.members) add(member, depth + 1);
+      lines.push({ node, key, depth });
+      if (node.members && !node.isClosed) for (const line of linesOfMembers(node)) add(line, depth + 1);
     };
-    add(root, 0);
+    add({ node: root }, 0);
     return lines;
   }
 
@@ -392,8 +400,9 @@ class Page {
     if (!node) return;
     if (!this.opened.has(value)) this.toggle(value);
     const opened = this.opened.get(value);
-    const line = opened ? Math.max(0, opened.lines.findIndex((it) => it.node.from === node.from && it.node.type === node.type)) : 0;
-    this.chosen = opened?.lines[line].node ?? node;
+    const line = opened ? Math.max(0, opened.lines.findIndex((it) => isSame(node, it.node) || isSame(node, it.key))) : 0;
+    const found = opened?.lines[line];
+    this.chosen = isSame(node, found?.key) ? found.key : found?.node ?? node;
     this.chosenRow = this.rowOfLine(value, line);
     this.lit = this.chosen;
     this.tree.show(this.chosenRow);
@@ -402,21 +411,26 @@ class Page {
 
   // Copies.
 
-  async copy(text) {
+  // Copies a text. For a moment the button says whether that worked.
+  async copy(text, button) {
+    let isCopied = true;
     try {
       await navigator.clipboard.writeText(text);
     } catch {
       const field = document.body.appendChild(element('textarea', ''));
       field.value = text;
       field.select();
-      document.execCommand('copy');
+      isCopied = document.execCommand('copy');
       field.remove();
     }
+    button.dataset.name ??= button.textContent;
+    button.textContent = isCopied ? 'Copied' : 'Not copied';
+    setTimeout(() => { button.textContent = button.dataset.name; }, 1500);
   }
 
   copyJson() {
     const node = this.chosen ?? (this.capture.count ? this.capture.tree(0) : null);
-    if (node) this.copy(JSON.stringify(toJson(this.bytes, node), null, 2));
+    if (node) this.copy(JSON.stringify(toJson(this.bytes, node), null, 2), $('json'));
   }
 
   copyLink() {
@@ -426,7 +440,7 @@ class Page {
     if (version !== 3) words.push(`version=${version}`);
     for (const [name, limit] of Object.entries(limits)) if (limit !== STANDARD[name]) words.push(`${name}=${limit}`);
     history.replaceState(null, '', `#${words.join('&')}`);
-    return this.copy(location.href);
+    return this.copy(location.href, $('link'));
   }
 
   /** Takes the bytes and the settings of the address. Returns false if it has none. */
@@ -458,13 +472,42 @@ class Page {
   }
 }
 
+const isSame = (node, other) => Boolean(node && other) && node.from === other.from && node.type === other.type;
+
+// The lines of the members of a node, without those inside of them. A pair has one line, unless its key has members.
+function linesOfMembers({ type, members }) {
+  if (type !== 'map' && type !== 'attribute') return members.map((node) => ({ node }));
+  const lines = [];
+  for (let at = 0; at < members.length; at += 2) {
+    const [key, node] = [members[at], members[at + 1]];
+    if (!node || key.members?.length) lines.push({ node: key }, ...(node ? [{ node }] : []));
+    else lines.push({ node, key });
+  }
+  return lines;
+}
+
 const escaped = (text) => text.replace(/\r/g, '\\r').replace(/\n/g, '\\n');
 
-/** Starts the page. */
-export async function start(module) {
-  const page = new Page(module, await load(module));
+const NO_MEMORY = 'This browser has no 64-bit memory for WebAssembly, which the inspector needs. Chromium and Edge from version 133 on'
+  + ' and Firefox from version 134 on have it.';
+
+/** Starts the page with the module that `unpack` returns, or says why it does not start. */
+export async function begin(unpack) {
   const asked = new URLSearchParams(location.hash.slice(1)).get('theme');
-  page.setTheme(asked ?? (matchMedia('(prefers-color-scheme: dark)').matches ? 'dark' : 'light'));
+  document.documentElement.dataset.theme = asked ?? (matchMedia('(prefers-color-scheme: dark)').matches ? 'dark' : 'light');
+  try {
+    if (!hasMemory64()) throw new Error(NO_MEMORY);
+    await start(await unpack());
+  } catch (error) {
+    const isOld = error.message === NO_MEMORY;
+    const text = isOld ? NO_MEMORY : `The module was not loaded: ${error.message}. Get the page again, or make it with ./build page.`;
+    $('verdict').className = 'verdict bad';
+    $('verdict').replaceChildren(element('p', '', text));
+  }
+}
+
+async function start(module) {
+  const page = new Page(module, await load(module));
   $('sent').value = TALK.sent;
   $('received').value = TALK.received;
   if (!page.fromAddress()) await page.take(fromEscapes(escaped(EXAMPLES[0].text)));

@@ -1,6 +1,6 @@
 // RESP2 and RESP3 for Node: a reader of replies, commands, and the pairing of replies with commands.
 import { readFileSync } from 'node:fs';
-import { AGGREGATES, KINDS, Library, Pairing as LibraryPairing, RespError, Scanner, TEXTS, Writer } from './library.mjs';
+import { AGGREGATES, hasMemory64, KINDS, Library, Pairing as LibraryPairing, RespError, Scanner, TEXTS, Writer } from './library.mjs';
 
 export { RespError };
 
@@ -14,7 +14,6 @@ const [SET, MAP, ATTRIBUTE, PUSH] = ['set', 'map', 'attribute', 'push'].map((nam
 const SYNTAX = 1;
 const DOUBLE_TEXT = /^(?:[+-]?\d+(?:\.\d+)?(?:[eE][+-]?\d+)?|-?inf|-?nan)$/;
 
-const module = new WebAssembly.Module(readFileSync(new URL('resp.wasm', import.meta.url)));
 
 /** An error that the server replied. */
 export class ErrorReply extends Error {
@@ -38,8 +37,19 @@ export class Verbatim {
   }
 }
 
-/** A library of its own, with its own memory. */
-const newLibrary = () => new Library(new WebAssembly.Instance(module, {}).exports);
+const MISSING = `resp needs WebAssembly with 64-bit memory, which this Node (${process.version}) does not have. Node 24 and later have it;`
+  + ' start Node 20, 22 or 23 with --experimental-wasm-memory64.';
+
+/** Loads the library. All readers, connections and commands use it. */
+function load() {
+  if (!hasMemory64()) throw new Error(MISSING);
+  return new Library(new WebAssembly.Instance(new WebAssembly.Module(readFileSync(new URL('resp.wasm', import.meta.url))), {}).exports);
+}
+
+const library = load();
+
+// Gives memory of the library back when its reader or connection is gone.
+const registry = new FinalizationRegistry((part) => part.end());
 
 /**
  * Reads replies from pieces of any size. Options: `version` 2 or 3 (3), `encoding` of texts ("utf8", or null for
@@ -47,14 +57,27 @@ const newLibrary = () => new Library(new WebAssembly.Instance(module, {}).export
  */
 export class Reader {
   constructor({ version = 3, encoding = 'utf8', ...limits } = {}) {
-    this.scanner = new Scanner(newLibrary(), version, limits);
+    this.scanner = new Scanner(library, version, limits);
+    registry.register(this, this.scanner);
+    this.version = version;
+    this.limits = limits;
     this.encoding = encoding;
+    this.clear();
+  }
+
+  clear() {
     this.open = [];
     this.text = null;
     this.replies = [];
     // The number of replies that were returned.
     this.returned = 0;
     this.failure = null;
+  }
+
+  /** Begins anew, for another connection. */
+  reset() {
+    this.scanner.begin(this.version, this.limits);
+    this.clear();
   }
 
   /** Reads a piece. The replies that are complete wait for `get`. */
@@ -83,7 +106,7 @@ export class Reader {
     if (this.failure) return undefined;
     switch (words[at]) {
       case WHOLE: return this.add(this.valueOf(words[at + 1], piece, to - words[at + 8] - 2, to - 2));
-      case INTEGER: return this.add(integer(words[at + 2], words[at + 3]));
+      case INTEGER: return this.add(this.integer(words[at + 2], words[at + 3]));
       case OPEN: return this.openAggregate(words[at + 1]);
       case CLOSE: return this.close();
       case NULL: return this.add(null);
@@ -118,9 +141,17 @@ export class Reader {
 
   // The value of a simple string, an error, a double or a bulk string.
   valueOf(form, buffer, from, to) {
-    if (form === ERROR || form === BULK_ERROR) return new ErrorReply(buffer.utf8Slice(from, to));
+    if (form === ERROR || form === BULK_ERROR) return this.error(buffer.utf8Slice(from, to));
     if (form === DOUBLE) return this.double(buffer.latin1Slice(from, to));
     return this.decode(buffer, from, to);
+  }
+
+  error(message) {
+    return new ErrorReply(message);
+  }
+
+  integer(low, high) {
+    return integerOf(low, high);
   }
 
   // A text that is no double of the published grammar breaks the protocol. redis-server 7.0 writes `-nan`.
@@ -151,12 +182,16 @@ export class Reader {
     if (this.failure) return;
     const { open } = this;
     if (open.length > 0) open[open.length - 1].members.push(value);
-    else this.replies.push(value);
+    else this.deliver(value);
+  }
+
+  deliver(reply) {
+    this.replies.push(reply);
   }
 }
 
 // The integer of these two halves: a number, or a BigInt if it is no safe integer.
-function integer(low, high) {
+function integerOf(low, high) {
   const number = (high | 0) * 4294967296 + low;
   return Number.isSafeInteger(number) ? number : BigInt.asIntN(64, (BigInt(high) << 32n) | BigInt(low));
 }
@@ -177,7 +212,7 @@ function* pairs(members) {
   for (let at = 0; at + 1 < members.length; at += 2) yield [members[at], members[at + 1]];
 }
 
-const writer = new Writer(newLibrary());
+const writer = new Writer(library);
 
 /** Returns the bytes of a command. A word is a Buffer, a Uint8Array, a string or a number. */
 export function pack(...words) {
@@ -192,7 +227,8 @@ export class Connection {
   constructor({ encoding = 'utf8', ...limits } = {}) {
     this.reader = new Reader({ version: 2, encoding, ...limits });
     this.limits = limits;
-    this.pairing = new LibraryPairing(this.reader.scanner.library);
+    this.pairing = new LibraryPairing(library);
+    registry.register(this, this.pairing);
     this.number = 0;
     this.numbers = [];
     this.isBetween = true;

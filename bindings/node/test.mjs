@@ -1,9 +1,23 @@
-// Tests of the package for Node: node test.mjs FOLDER, where FOLDER has the package that ./build page made.
+// Tests of the package for Node: node --expose-gc test.mjs FOLDER, where FOLDER has the package that ./build page made.
 import assert from 'node:assert/strict';
+import { spawnSync } from 'node:child_process';
+import { setImmediate } from 'node:timers/promises';
 import { pathToFileURL } from 'node:url';
 import { resolve } from 'node:path';
 
-const { Connection, ErrorReply, pack, Pairs, Push, Reader, RespError, Verbatim } = await import(pathToFileURL(resolve(process.argv[2], 'index.mjs')));
+// The instances of modules that the package makes.
+const instances = [];
+const { Instance } = WebAssembly;
+WebAssembly.Instance = class extends Instance {
+  constructor(...given) {
+    super(...given);
+    instances.push(this);
+  }
+};
+
+const place = (name) => pathToFileURL(resolve(process.argv[2], name));
+const { Connection, ErrorReply, pack, Pairs, Push, Reader, RespError, Verbatim } = await import(place('index.mjs'));
+const { decoderFor, replaceMethods, replaceParsers } = await import(place('adapters.mjs'));
 
 const STREAM = '%2\r\n+a\r\n:1\r\n$1\r\nb\r\n*2\r\n_\r\n#t\r\n~2\r\n:1\r\n:2\r\n,1.5\r\n(-12345678901234567890\r\n=6\r\ntxt:hi\r\n>1\r\n+note\r\n'
   + '-ERR no\r\n|1\r\n+ttl\r\n:9\r\n$5\r\nhello\r\n:9223372036854775807\r\n$?\r\n;2\r\nab\r\n;1\r\nc\r\n;0\r\n*?\r\n:1\r\n.\r\n';
@@ -11,6 +25,19 @@ const VALUES = [
   new Map([['a', 1], ['b', [null, true]]]), new Set([1, 2]), 1.5, -12345678901234567890n, new Verbatim('txt', 'hi'), Push.from(['note']),
   new ErrorReply('ERR no'), 'hello', 9223372036854775807n, 'abc', [1],
 ];
+
+// A class with the calls of redis-parser 3, for the test of their replacements.
+class Parser {
+  constructor({ returnBuffers = false, stringNumbers = false, ...calls }) {
+    this.setReturnBuffers(returnBuffers);
+    this.setStringNumbers(stringNumbers);
+    Object.assign(this, calls);
+    this.reset();
+  }
+}
+class ReplyError extends Error {}
+class ParserError extends Error {}
+
 const tests = {
   'replies come whole and cut at each byte'() {
     const bytes = Buffer.from(STREAM);
@@ -84,6 +111,97 @@ const tests = {
       assert.deepEqual(found, [[1, new Map([['proto', 3]])], [0, Push.from([0])], [2, 2.5], [3, 'OK']], `cut at ${cut}`);
     }
   },
+  'one library serves all readers and connections'() {
+    for (let made = 0; made < 20; made++) [new Reader(), new Connection()].forEach((it) => assert.equal(it.get(), undefined));
+    pack('PING');
+    assert.equal(instances.length, 1);
+  },
+  async 'the memory of readers that are gone is used again'() {
+    const { memory } = instances[0].exports;
+    for (let round = 0; round < 40; round++) {
+      for (let made = 0; made < 500; made++) new Reader().feed(Buffer.from('*1\r\n'));
+      for (let turn = 0; turn < 3; turn++) {
+        globalThis.gc();
+        await setImmediate();
+      }
+    }
+    // 20,000 readers need 80 MB at least.
+    assert.ok(memory.buffer.byteLength < 40_000_000, `${memory.buffer.byteLength} bytes`);
+  },
+  'a reader begins anew'() {
+    const reader = new Reader({ version: 2 });
+    reader.feed(Buffer.from('*2\r\n$5\r\nhel'));
+    reader.reset();
+    reader.feed(Buffer.from(':1\r\n_'));
+    assert.equal(reader.get(), 1);
+    assert.throws(() => reader.get(), { message: 'Version' });
+    reader.reset();
+    reader.feed(Buffer.from('+OK\r\n'));
+    assert.equal(reader.get(), 'OK');
+  },
+  'without 64-bit memory the package says what is missing'() {
+    const words = ['--input-type=module', '-e', `await import(${JSON.stringify(place('index.mjs').href)})`];
+    const { status, stderr } = spawnSync(process.execPath, words, { encoding: 'utf8', env: { ...process.env, NODE_OPTIONS: '' } });
+    const has = spawnSync(process.execPath, ['-e', 'process.exit(WebAssembly.validate(Uint8Array.of(0,97,115,109,1,0,0,0,5,3,1,4,0)) ? 0 : 1)']);
+    if (has.status === 0) assert.equal(status, 0);
+    else assert.match(stderr, /64-bit memory, which this Node \(v\d.*start Node 20, 22 or 23 with --experimental-wasm-memory64/);
+  },
+  'a decoder delivers each reply at once, in the type that is wanted then'() {
+    const bytes = Buffer.from('+a\r\n$2\r\nbc\r\n*3\r\n:9007199254740993\r\n-ERR no\r\n$-1\r\n$0\r\n\r\n');
+    for (let cut = 0; cut <= bytes.length; cut++) {
+      const found = [];
+      const Decoder = decoderFor(ReplyError);
+      const decoder = new Decoder({ returnStringsAsBuffers: () => found.length === 1, onReply: (reply) => found.push(reply) });
+      decoder.write(bytes.subarray(0, cut));
+      decoder.write(bytes.subarray(cut));
+      const wanted = ['a', Buffer.from('bc'), [9007199254740992, new ReplyError('ERR no'), null], ''];
+      assert.deepEqual(found, wanted, `cut at ${cut}`);
+    }
+  },
+  'a decoder that is called while another one delivers reads its own bytes'() {
+    const found = [];
+    const Decoder = decoderFor(ReplyError);
+    const inner = new Decoder({ returnStringsAsBuffers: () => false, onReply: (reply) => found.push(reply) });
+    const outer = new Decoder({
+      returnStringsAsBuffers: () => false,
+      onReply: (reply) => {
+        found.push(reply);
+        inner.write(Buffer.from(`+in ${reply}\r\n`));
+      },
+    });
+    outer.write(Buffer.from('+one\r\n+two\r\n'));
+    assert.deepEqual(found, ['one', 'in one', 'two', 'in two']);
+  },
+  'a decoder throws at a wrong byte, and begins anew'() {
+    const found = [];
+    const Decoder = decoderFor(ReplyError);
+    const decoder = new Decoder({ returnStringsAsBuffers: () => false, onReply: (reply) => found.push(reply) });
+    assert.throws(() => decoder.write(Buffer.from('+a\r\n%1\r\n')), { message: 'Version' });
+    decoder.reset();
+    decoder.write(Buffer.from('+b\r\n'));
+    assert.deepEqual(found, ['a', 'b']);
+  },
+  'the methods of redis-parser are replaced'() {
+    replaceMethods(Parser, { ReplyError, ParserError });
+    const found = [];
+    const calls = { returnReply: (it) => found.push(it), returnError: (it) => found.push(['error', it]), returnFatalError: (it) => found.push(['fatal', it]) };
+    const parser = new Parser(calls);
+    parser.execute(Buffer.from('*2\r\n:1\r\n-ERR in\r\n-ERR out\r\n$2\r\na'));
+    parser.execute(Buffer.from('b\r\n'));
+    parser.setReturnBuffers(true);
+    parser.setStringNumbers(true);
+    parser.execute(Buffer.from('+c\r\n:9223372036854775807\r\n*'));
+    parser.reset();
+    parser.execute(Buffer.from(':1\r\n:x'));
+    parser.execute(Buffer.from(':2\r\n'));
+    assert.deepEqual(found, [
+      [1, new ReplyError('ERR in')], ['error', new ReplyError('ERR out')], 'ab', Buffer.from('c'), '9223372036854775807', '1',
+      ['fatal', new ParserError('Protocol error, Syntax')], '2',
+    ]);
+  },
+  'without a client there is nothing to replace'() {
+    assert.throws(() => replaceParsers('/nowhere/app.mjs'), /neither node-redis nor redis-parser is installed/);
+  },
   'a reply that nobody asked for, and a command that is not paired, are refused'() {
     const connection = new Connection();
     assert.throws(() => connection.command('SUBSCRIBE', 'c'), { message: 'Unpaired' });
@@ -94,7 +212,7 @@ const tests = {
 let failed = 0;
 for (const [name, test] of Object.entries(tests)) {
   try {
-    test();
+    await test();
   } catch (error) {
     failed++;
     console.log(`node: ${name}: ${error.message}`);

@@ -1,9 +1,10 @@
 /* The compiled part of the package resp: readers of RESP2 and RESP3 that make Python's values from events. */
 #define PY_SSIZE_T_CLEAN
-#define Py_LIMITED_API 0x030b0000
+#define Py_LIMITED_API 0x03080000
 #include <Python.h>
 
 #include "bytes.h"
+#include "older.h"
 #include "resp.h"
 #include "values.h"
 
@@ -12,6 +13,8 @@
 
 struct reader {
     PyObject_HEAD
+    /* The module, whose objects `values` uses. */
+    PyObject *module;
     /* `length` bytes were fed. The first `pos` of them have been read. They are in `lent`, or in `kept` if that is
      * NULL. */
     const uint8_t *fed;
@@ -552,14 +555,23 @@ static void end_reading(struct reader *reader) {
     reader->events = NULL;
 }
 
-/* Returns the module of a reader's type, or of the type that it is derived from. */
-static struct module *module_of(PyTypeObject *type) {
-    struct module *module = NULL;
-    while (type && !(module = PyType_GetModuleState(type))) {
-        PyErr_Clear();
-        type = PyType_GetSlot(type, Py_tp_base);
+static struct PyModuleDef MODULE;
+
+/* The attribute of the types of readers that has the module. PyType_GetModule is missing in Python 3.8. */
+#define MODULE_NAME "__resp__"
+
+/* Sets the module of a reader to that of its type. Returns false with an exception if the type has lost it. */
+static bool find_module(struct reader *reader) {
+    PyObject *module = PyObject_GetAttrString((PyObject *)Py_TYPE((PyObject *)reader), MODULE_NAME);
+    if (module && (!PyModule_Check(module) || PyModule_GetDef(module) != &MODULE)) {
+        PyErr_SetString(PyExc_TypeError, "the attribute " MODULE_NAME " of the type is not the module of resp");
+        replace(&module, NULL);
     }
-    return module;
+    if (!module)
+        return false;
+    replace(&reader->module, module);
+    reader->values.module = PyModule_GetState(module);
+    return true;
 }
 
 /* Resets the reader: nothing was fed. */
@@ -591,8 +603,7 @@ static void begin(struct reader *reader, const struct words *given) {
 
 static int reader_init(struct reader *reader, PyObject *args, PyObject *words) {
     struct words given;
-    reader->values.module = module_of(Py_TYPE((PyObject *)reader));
-    if (!reader->values.module || !read_words(&given, reader->values.module, args, words) ||
+    if (!find_module(reader) || !read_words(&given, reader->values.module, args, words) ||
         (reader->not_enough_data && !is_ready(reader)) || !are_right(given.version, &given.limits) ||
         !set_texts(&reader->values, given.encoding, given.errors))
         return -1;
@@ -608,10 +619,14 @@ static int pairing_init(struct reader *reader, PyObject *args, PyObject *words) 
     return 0;
 }
 
-/* The next two functions support Python's garbage collector. */
+/* The next two functions support Python's garbage collector. Since Python 3.9 a reader has to name its type. */
+
+static bool visits_type;
 
 static int reader_traverse(struct reader *reader, visitproc visit, void *arg) {
-    Py_VISIT(Py_TYPE((PyObject *)reader));
+    if (visits_type)
+        Py_VISIT(Py_TYPE((PyObject *)reader));
+    Py_VISIT(reader->module);
     Py_VISIT(reader->protocol_error);
     Py_VISIT(reader->values.reply_error);
     Py_VISIT(reader->not_enough_data);
@@ -636,6 +651,7 @@ static void reader_dealloc(struct reader *reader) {
     struct values *values = &reader->values;
     PyObject_GC_UnTrack(reader);
     reader_clear(reader);
+    Py_CLEAR(reader->module);
     PyMem_Free(reader->kept.start);
     end_reading(reader);
     PyMem_Free(values->start);
@@ -695,10 +711,18 @@ static bool append_buffer(struct bytes *bytes, PyObject *word) {
     return is_added;
 }
 
+/* Returns whether an object is of a type that word_of reads. */
+static bool is_text_or_number(PyObject *word) { return PyUnicode_Check(word) || PyLong_Check(word) || PyFloat_Check(word); }
+
 /* Appends a word of a command. */
 static bool append_word(struct bytes *bytes, PyObject *word) {
-    if (PyObject_CheckBuffer(word))
-        return append_buffer(bytes, word);
+    if (!is_text_or_number(word)) {
+        if (append_buffer(bytes, word))
+            return true;
+        if (!PyErr_ExceptionMatches(PyExc_TypeError))
+            return false;
+        PyErr_Clear();
+    }
     PyObject *made = word_of(word);
     bool is_added = made && append_buffer(bytes, made);
     Py_XDECREF(made);
@@ -813,8 +837,8 @@ static bool add_name(PyObject *module, const char *name, PyObject *value) {
 
 /* Adds a type to the module. */
 static bool add_type(PyObject *module, const char *name, PyType_Spec *spec) {
-    PyObject *type = PyType_FromModuleAndSpec(module, spec, NULL);
-    bool is_added = add_name(module, name, type);
+    PyObject *type = PyType_FromSpec(spec);
+    bool is_added = type && !PyObject_SetAttrString(type, MODULE_NAME, module) && add_name(module, name, type);
     Py_XDECREF(type);
     return is_added;
 }
@@ -863,6 +887,8 @@ static bool make_usual(struct module *to) {
 
 static int fill_module(PyObject *module) {
     struct module *to = PyModule_GetState(module);
+    PyObject *version = PySys_GetObject("hexversion");
+    visits_type = version && PyLong_AsLong(version) >= 0x03090000;
     PyObject *error = PyErr_NewException("resp.RespError", NULL, NULL);
     if (!error)
         return -1;

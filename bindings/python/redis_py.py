@@ -60,6 +60,24 @@ def client(port, **words):
     return redis.Redis(connection_pool=redis.ConnectionPool(port=port, parser_class=Parser, **words))
 
 
+def from_url(port):
+    """A client that a URL describes reads with the parser that is named beside it."""
+    url = f"redis://127.0.0.1:{port}/2"
+    server = redis.Redis.from_url(url, parser_class=Parser)
+    check(server.set("url", "1") and server.get("url"), b"1")
+    connection = server.connection_pool.get_connection("PING")
+    check((type(connection._parser), connection.db), (Parser, 2))
+    server.connection_pool.release(connection)
+
+
+async def from_url_by_asyncio(port):
+    server = redis.asyncio.Redis.from_url(f"redis://127.0.0.1:{port}/2", parser_class=AsyncParser)
+    check(await server.get("url"), b"1")
+    connection = await server.connection_pool.get_connection("PING")
+    check(type(connection._parser), AsyncParser)
+    await server.connection_pool.disconnect()
+
+
 def talk_in_protocol_3(port):
     """Reads replies and pushes of protocol 3 on one connection."""
     pushes = []
@@ -188,6 +206,8 @@ def main(port):
     talk(server, redis.Redis(port=port, decode_responses=True))
     server.flushall()
     talk(client(port), client(port, decode_responses=True))
+    from_url(port)
+    asyncio.run(from_url_by_asyncio(port))
     talk_in_protocol_3(port)
     asyncio.run(talk_by_asyncio(port))
     asyncio.run(talk_after_a_timeout(port))

@@ -30,16 +30,16 @@ setup(
     name="resp",
     version=version(),
     description="Reads RESP2 and RESP3, the wire protocol of Redis, with a proved scanner",
-    python_requires=">=3.11",
+    python_requires=">=3.8",
     packages=["resp"],
     package_dir={"": "src"},
     package_data={"resp": ["py.typed", "__init__.pyi"]},
-    options={"bdist_wheel": {"py_limited_api": "cp311"}},
+    options={"bdist_wheel": {"py_limited_api": "cp38"}},
     ext_modules=[
         Extension(
             "resp._resp",
             sources=["_resp.c"],
-            depends=["bytes.h", "values.h"],
+            depends=["bytes.h", "older.h", "values.h"],
             include_dirs=[os.path.join(PREFIX, "include")],
             extra_objects=[os.path.join(PREFIX, "lib", "libresp.a")],
             # Each member of an array needs a call or two of Python. These options make such calls faster.

@@ -546,6 +546,20 @@ class Rows(unittest.TestCase):
             methods = {it.name for it in named[name].body if isinstance(it, ast.FunctionDef)} - {"__init__"}
             self.assertEqual(methods, {it for it in vars(getattr(resp, name)) if not it.startswith("__")})
 
+    def test_a_type_without_its_module(self):
+        class Changed(resp.Reader):
+            pass
+
+        kept = Changed(protocol=3)
+        for other in (None, sys):
+            Changed.__resp__ = other
+            with self.assertRaises(TypeError):
+                Changed()
+            with self.assertRaises(TypeError):
+                kept.__init__()
+        kept.feed(b">1\r\n+a\r\n")
+        self.assertIsInstance(kept.gets(), resp.Push)
+
     def test_doubles(self):
         for text, wanted in [(b"1.5", 1.5), (b"-1", -1.0), (b"+1.0", 1.0), (b"0.5", 0.5), (b"1e3", 1000.0), (b"1.5E-1", 0.15),
                              (b"inf", math.inf), (b"-inf", -math.inf), (b"1e400", math.inf)]:

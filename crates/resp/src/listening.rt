@@ -485,7 +485,6 @@ fn settings_of(rt: &HostRuntime, options: &ProxyOptions) -> ProxySettings {
             unsent: options.unsent,
             local_ping: options.local_ping,
             lines: !options.refuses_lines,
-            ..resp_proxy::Settings::standard()
         },
         most: most_clients(rt, options.clients, descriptors_of_proxy(options)),
         own: options.own,

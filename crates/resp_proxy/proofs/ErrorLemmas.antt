@@ -3,7 +3,7 @@ use Rattle.std.proofs.Common.{◌≡◌, ◌≢◌, ℕ, ◌<◌, Bool, true, Li
 use Rattle.std.specs.Prelude.{slice_get, Option, None, Some, IsSomeAnd}
 use Rattle.std.specs.Cmp.Lexicographic.{bytes_decides}
 use Rattle.std.specs.Str.{bytes_eq}
-use Rattle.resp_proxy.specs.ErrorRows.{AddsErrors, CountsErrors, has_word, row_has}
+use Rattle.resp_proxy.specs.ErrorRows.{AddsError, CountsError, has_word, row_has}
 use Rattle.resp_proxy.specs.declared.error_counts.ErrorRow.{ErrorRow}
 
 get-set_same : (rows : List ErrorRow) (i : ℕ) (row : ErrorRow) → i < length rows → slice_get (set rows i row) i ≡ Some row
@@ -18,11 +18,11 @@ get-set_other (x ∷ rows) zero (suc j) row apart = refl
 get-set_other (x ∷ rows) (suc i) zero row apart = refl
 get-set_other (x ∷ rows) (suc i) (suc j) row apart = get-set_other rows i j row (λ e. apart (ap suc e))
 
-pub counts_errors : (place n : ℕ) (rows : List ErrorRow) (before after : ErrorRow) → place < length rows →
-    slice_get rows place ≡ Some before → AddsErrors n before after → CountsErrors place n rows (set rows place after)
-counts_errors place n rows before after within is adds = record {
-  counted = subst (λ (o : Option ErrorRow). IsSomeAnd o (λ old. IsSomeAnd (slice_get (set rows place after) place) (AddsErrors n old))) (sym is)
-      (subst (λ (o : Option ErrorRow). IsSomeAnd o (AddsErrors n before)) (sym (get-set_same rows place after within)) adds);
+pub counts_error : (place : ℕ) (rows : List ErrorRow) (before after : ErrorRow) → place < length rows →
+    slice_get rows place ≡ Some before → AddsError before after → CountsError place rows (set rows place after)
+counts_error place rows before after within is adds = record {
+  counted = subst (λ (o : Option ErrorRow). IsSomeAnd o (λ old. IsSomeAnd (slice_get (set rows place after) place) (AddsError old))) (sym is)
+      (subst (λ (o : Option ErrorRow). IsSomeAnd o (AddsError before)) (sym (get-set_same rows place after within)) adds);
   others = λ other apart. get-set_other rows place other after apart;
   number = length-set rows place after;
 }

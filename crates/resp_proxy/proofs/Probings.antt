@@ -1,6 +1,8 @@
 -- The replies to probes.
-use Rattle.std.proofs.Common.{◌≡◌, ◌∙◌, ◌⊎◌, inl, inr, ℕ, ◌==◌, true, List, [], ◌∷◌, ◌++◌, take, Option, None, Some, Result, Ok, Err, IfNone, IfSome, is_ok, ap, length, subst, sym}
+use Rattle.std.proofs.Common.{◌≡◌, ◌∙◌, ◌⊎◌, inl, inr, ℕ, ◌==◌, true, false, List, [], ◌∷◌, ◌++◌, take, Option, None, Some, Result, Ok, Err, IfNone, IfSome, is_ok, ap, length, subst, sym}
 use Rattle.std.proofs.Math.Seq.{take-length}
+use Rattle.std.proofs.lemmas.List.{take_at}
+use Rattle.std.specs.Prelude.{OnOk, is_err}
 use Rattle.std.specs.List.{starts_with}
 use Rattle.std.proofs.lemmas.Bool.{true≢false}
 use Rattle.resp_frames.specs.declared.begun.Begun.{Begun}
@@ -61,6 +63,12 @@ all-given waiting text count who new p e n h =
     subst (λ o. IfSome o (λ t. HasRun new (with_given who t p))) (sym e)
     (subst (λ t. HasRun new (with_given who t p)) (ap (λ k. take k text) n ∙ take-length text)
     (subst (λ o. IfSome o (λ t. HasRun new (with_given who (take count t) p))) e h))
+
+-- bytes that were appended and then removed
+pub cut-again : {E : Type 0} (r : Result (Unit {0}) E) (old grown cut text : List ℕ) (n : ℕ) → is_err r ≡ false → OnOk r (grown ≡ old ++ text) →
+    n ≡ length old → cut ≡ take n grown → cut ≡ old
+cut-again (Ok v) old grown cut text n fine e l is = is ∙ ap (take n) e ∙ take_at old text n (sym l)
+cut-again (Err v) old grown cut text n fine e l is = absurd (true≢false fine)
 
 -- nobody got a reply
 pub still-in-step : (prober : Option ClientId) (expected : List ℕ) (mid new : Board) → AreInStep prober expected mid → KeepsBytes mid new →

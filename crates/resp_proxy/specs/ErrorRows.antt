@@ -7,14 +7,14 @@ use Rattle.resp_proxy.specs.declared.error_counts.ErrorRow.{ErrorRow}
 abbrev pub last_count : ℕ
 last_count = 18446744073709551615
 
--- so many errors more; a count stays at its greatest value
-pub record AddsErrors (n : ℕ) (old new : ErrorRow) : Type 0 where
+-- one error more; a count stays at its greatest value
+pub record AddsError (old new : ErrorRow) : Type 0 where
   pub word : new.word ≡ old.word
-  pub count : new.count ≡ min (old.count + n) last_count
+  pub count : new.count ≡ min (old.count + 1) last_count
 
--- so many errors more are counted in the row at this place, and the other rows stay as they are
-pub record CountsErrors (place n : ℕ) (old new : List ErrorRow) : Type 0 where
-  pub counted : IsSomeAnd (slice_get old place) (λ before. IsSomeAnd (slice_get new place) (AddsErrors n before))
+-- one error more is counted in the row at this place, and the other rows stay as they are
+pub record CountsError (place : ℕ) (old new : List ErrorRow) : Type 0 where
+  pub counted : IsSomeAnd (slice_get old place) (λ before. IsSomeAnd (slice_get new place) (AddsError before))
   pub others : (other : ℕ) → other ≢ place → slice_get new other ≡ slice_get old other
   pub number : length new ≡ length old
 

@@ -2,6 +2,7 @@
 pub mod Clients
 pub mod Failing
 pub mod Proxies
+pub mod ServerLines
 pub mod Probing
 pub mod Replying
 pub mod Rejecting

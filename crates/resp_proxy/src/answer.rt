@@ -8,8 +8,7 @@ ghost use Rattle.resp_proxy.specs.Refusing.{NamesCommand, SameLetters};
 
 use crate::error::{ClientError, CommandName};
 use crate::hello::hello_text;
-use crate::identity::Identity;
-use crate::settings::Settings;
+use crate::route::Route;
 use resp_commands::{Class, class_of, entry, subcommand};
 use resp_frames::{CommandFrame, Frames};
 use resp_scan::whole;
@@ -77,8 +76,8 @@ pub(crate) enum Answer {
 pub(crate) fn own_answer(
     alloc: Global,
     limits: &Limits,
-    settings: &Settings,
-    identity: &mut Identity,
+    route: Route,
+    name: &mut Vec<u8>,
     command: &CommandFrame,
 ) -> Result<Answer, AllocError>
     ensures { IfOk result (FitsAnswer limits.now (text_of command.now.frame)) }
@@ -99,12 +98,12 @@ pub(crate) fn own_answer(
     if is(asked.name, b"POST") || is(asked.name, b"HOST:") {
         return Ok(Answer::Http);
     }
-    if !stays(settings, asked) {
+    if !stays(route, asked) {
         if let Some(name) = name_for_own(limits, command.frame.text()) {
             return Ok(Answer::NoneLeft(name));
         }
     }
-    let text = answer_to(alloc, settings, identity, asked, command.words.class)?;
+    let text = answer_to(alloc, route, name, asked, command.words.class)?;
     Ok(Answer::Reply(text))
 }
 
@@ -139,8 +138,8 @@ fn command_name(name: &[u8], first: Option<&[u8]>) -> Option<CommandName>
 /// Returns whether the proxy replies to a command that concerns the setting: to SELECT 0 of a
 /// client in database 0, and to HELLO without a user, whose reply tells the client that its version
 /// is still 2.
-fn stays(settings: &Settings, asked: DecidingWords<'_>) -> bool {
-    settings.answers_settings
+fn stays(route: Route, asked: DecidingWords<'_>) -> bool {
+    route.is_first
         && asked.count <= 1
         && (is(asked.name, b"HELLO") || is(asked.name, b"SELECT") && asked.first == b"0".as_slice())
 }
@@ -155,18 +154,18 @@ fn is(word: &[u8], wanted: &[u8]) -> bool
 /// Returns the reply to a command other than QUIT.
 fn answer_to(
     alloc: Global,
-    settings: &Settings,
-    identity: &mut Identity,
+    route: Route,
+    name: &mut Vec<u8>,
     asked: DecidingWords<'_>,
     class: Option<Class>,
 ) -> Result<Vec<u8>, AllocError> {
     if is(asked.name, b"CLIENT") && is_own(asked.first) {
-        return answer_to_client(alloc, settings.version, identity, asked);
+        return answer_to_client(alloc, route, name, asked);
     }
-    if settings.answers_settings && is(asked.name, b"HELLO") {
-        return answer_to_hello(alloc, identity.number, asked);
+    if route.is_first && is(asked.name, b"HELLO") {
+        return answer_to_hello(alloc, route.client.number, asked);
     }
-    if settings.answers_settings
+    if route.is_first
         && is(asked.name, b"SELECT")
         && asked.count == 1
         && asked.first == b"0".as_slice()
@@ -192,18 +191,18 @@ fn is_own(subcommand: &[u8]) -> bool {
 /// client is involved.
 fn answer_to_client(
     alloc: Global,
-    version: Version,
-    identity: &mut Identity,
+    route: Route,
+    name: &mut Vec<u8>,
     asked: DecidingWords<'_>,
 ) -> Result<Vec<u8>, AllocError> {
     if is(asked.first, b"ID") && asked.count == 1 {
-        return Ok(format!(in alloc; ":{}\r\n", identity.number)?.into_bytes());
+        return Ok(format!(in alloc; ":{}\r\n", route.client.number)?.into_bytes());
     }
     if is(asked.first, b"GETNAME") && asked.count == 1 {
-        return name_of(alloc, version, &identity.name);
+        return name_of(alloc, route.version, name);
     }
     if is(asked.first, b"SETNAME") && asked.count == 2 {
-        return set_name(alloc, &mut identity.name, asked.second);
+        return set_name(alloc, name, asked.second);
     }
     if is(asked.first, b"SETINFO") && asked.count == 3 {
         return ok(alloc);

@@ -14,7 +14,6 @@ ghost use Rattle.resp_proxy.specs.Taking.{Carries};
 use crate::answer::{Answer, own_answer};
 use crate::counts::ProxyCounts;
 use crate::error::ClientError;
-use crate::identity::Identity;
 use crate::intake::Intake;
 use crate::local::{local_answer, may_be_answered};
 use crate::route::Route;
@@ -33,7 +32,7 @@ pub(crate) fn carry_out(
     settings: &Settings,
     intake: &Intake,
     counts: &mut ProxyCounts,
-    identity: &mut Identity,
+    name: &mut Vec<u8>,
     board: &mut Board,
     route: Route,
     command: &CommandFrame,
@@ -52,9 +51,7 @@ pub(crate) fn carry_out(
     if is_sent(command) {
         return forward(board, route, command.frame.text());
     }
-    answer_or_send(
-        alloc, settings, intake, counts, identity, board, route, command,
-    )
+    answer_or_send(alloc, settings, intake, counts, name, board, route, command)
 }
 
 /// Like `carry_out`, after the command was counted.
@@ -64,7 +61,7 @@ fn answer_or_send(
     settings: &Settings,
     intake: &Intake,
     counts: &ProxyCounts,
-    identity: &mut Identity,
+    name: &mut Vec<u8>,
     board: &mut Board,
     route: Route,
     command: &CommandFrame,
@@ -80,7 +77,7 @@ fn answer_or_send(
 {
     no_spelling_begins_another();
     if is_shared(command) {
-        return match local_answer(alloc, settings, counts, board, route.line, command) {
+        return match local_answer(alloc, settings, counts, board, command) {
             Ok(Some(answer)) => own(board, route.client, &answer),
             Ok(None) => forward(board, route, command.frame.text()),
             Err(AllocError) => Err(ClientError::OutOfMemory),
@@ -89,7 +86,7 @@ fn answer_or_send(
     if command.words.class.is_none() && intake.admits(command) {
         return forward(board, route, command.frame.text());
     }
-    match own_answer(alloc, &intake.frames.limits(), settings, identity, command) {
+    match own_answer(alloc, &intake.frames.limits(), route, name, command) {
         Ok(Answer::Reply(answer)) => own(board, route.client, &answer),
         Ok(Answer::Quit) => Err(ClientError::Quit),
         Ok(Answer::Http) => Err(ClientError::Http),

@@ -4,7 +4,6 @@ ghost use Rattle.std.specs.Prelude.{◌≡◌, ◌↔◌, false, []};
 ghost use Rattle.resp_proxy.specs.Clients.{Holds, client_id, is_closing, is_leaving, route_of, waits_for_room};
 ghost use Rattle.resp_proxy.specs.Terms.{Terms};
 
-use crate::identity::Identity;
 use crate::route::Route;
 use bytes::BytesMut;
 use resp_board::ClientId;
@@ -24,7 +23,8 @@ pub struct Client {
     pub(crate) is_closing: bool,
     /// Whether the next command, with which `rest` begins, needs a dedicated connection.
     pub(crate) is_leaving: bool,
-    pub(crate) identity: Identity,
+    /// The name that the client has given itself, or empty.
+    pub(crate) name: Vec<u8>,
 }
 
 impl Client {
@@ -41,10 +41,7 @@ impl Client {
             rest: BytesMut::new(alloc),
             is_closing: false,
             is_leaving: false,
-            identity: Identity {
-                number: route.client.number,
-                name: Vec::new(alloc),
-            },
+            name: Vec::new(alloc),
         }
     }
 
@@ -71,7 +68,8 @@ impl Client {
     }
 
     /// Returns whether the next command of this client needs a connection of its own. Nothing more is
-    /// taken from this client. Call [`Proxy::leave`](crate::Proxy::leave) when all its replies were written.
+    /// taken from this client. Call [`Proxy::enter`](crate::Proxy::enter) or
+    /// [`Proxy::leave`](crate::Proxy::leave) when all its replies were written.
     pub fn is_leaving(&self) -> bool
         ensures { result ≡ is_leaving self.now }
     {

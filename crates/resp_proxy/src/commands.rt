@@ -13,7 +13,6 @@ ghost use Rattle.resp_proxy.specs.Unfinished.{WhereUnfinished, terms_of};
 use crate::carrying::carry_out;
 use crate::counts::ProxyCounts;
 use crate::error::ClientError;
-use crate::identity::Identity;
 use crate::intake::Intake;
 use crate::lines::take_line;
 use crate::part::Part;
@@ -46,7 +45,7 @@ pub(crate) fn take_commands(
     intake: &mut Intake,
     counts: &mut ProxyCounts,
     unfinished: &mut Unfinished,
-    identity: &mut Identity,
+    name: &mut Vec<u8>,
     board: &mut Board,
     route: Route,
     piece: &[u8],
@@ -74,7 +73,7 @@ pub(crate) fn take_commands(
             intake,
             counts,
             unfinished,
-            identity,
+            name,
             board,
             route,
             &piece[used..],
@@ -115,7 +114,7 @@ fn take_one(
     intake: &mut Intake,
     counts: &mut ProxyCounts,
     unfinished: &mut Unfinished,
-    identity: &mut Identity,
+    name: &mut Vec<u8>,
     board: &mut Board,
     route: Route,
     piece: &[u8],
@@ -141,7 +140,7 @@ fn take_one(
             intake,
             counts,
             &mut unfinished.line,
-            identity,
+            name,
             board,
             route,
             piece,
@@ -153,7 +152,7 @@ fn take_one(
             intake,
             counts,
             &mut unfinished.begun,
-            identity,
+            name,
             board,
             route,
             piece,
@@ -169,7 +168,7 @@ fn take_array(
     intake: &mut Intake,
     counts: &mut ProxyCounts,
     begun: &mut Begun,
-    identity: &mut Identity,
+    name: &mut Vec<u8>,
     board: &mut Board,
     route: Route,
     piece: &[u8],
@@ -198,14 +197,14 @@ fn take_array(
         None => return Ok(Part::Partial),
     };
     let used = command.frame.used();
-    if intake.sets_aside(&command) {
+    if intake.sets_aside(route, &command) {
         return match command.frame.text().to_vec(alloc) {
             Ok(text) => Ok(Part::Aside(used, text)),
             Err(AllocError) => Err(ClientError::OutOfMemory),
         };
     }
     match carry_out(
-        alloc, settings, intake, counts, identity, board, route, &command,
+        alloc, settings, intake, counts, name, board, route, &command,
     ) {
         Ok(()) => Ok(Part::Whole(used)),
         Err(error) => Err(error),

@@ -1,7 +1,7 @@
 //! The numbers of a proxy.
 
 use crate::error_counts::ErrorCounts;
-use crate::latency::{Latency, Times};
+use crate::latency::{ReplyTimes, Times, Waits};
 use crate::name_counts::NameCounts;
 use resp_board::{Board, LineId};
 use std::alloc::{AllocError, Global};
@@ -34,42 +34,6 @@ pub struct Numbers {
     pub lines: u64,
 }
 
-impl Numbers {
-    /// Returns the sums of these numbers and others.
-    pub fn plus(self, other: Numbers) -> Numbers {
-        Numbers {
-            clients: self.clients.saturating_add(other.clients),
-            accepted: self.accepted.saturating_add(other.accepted),
-            rejected: self.rejected.saturating_add(other.rejected),
-            unread: self.unread.saturating_add(other.unread),
-            own: self.own.saturating_add(other.own),
-            commands: self.commands.saturating_add(other.commands),
-            failed: self.failed.saturating_add(other.failed),
-            connections: self.connections.saturating_add(other.connections),
-            waiting: self.waiting.saturating_add(other.waiting),
-            unsent: self.unsent.saturating_add(other.unsent),
-            lines: self.lines.saturating_add(other.lines),
-        }
-    }
-
-    /// Returns these numbers without others that were added to them.
-    pub fn minus(self, other: Numbers) -> Numbers {
-        Numbers {
-            clients: self.clients.saturating_sub(other.clients),
-            accepted: self.accepted.saturating_sub(other.accepted),
-            rejected: self.rejected.saturating_sub(other.rejected),
-            unread: self.unread.saturating_sub(other.unread),
-            own: self.own.saturating_sub(other.own),
-            commands: self.commands.saturating_sub(other.commands),
-            failed: self.failed.saturating_sub(other.failed),
-            connections: self.connections.saturating_sub(other.connections),
-            waiting: self.waiting.saturating_sub(other.waiting),
-            unsent: self.unsent.saturating_sub(other.unsent),
-            lines: self.lines.saturating_sub(other.lines),
-        }
-    }
-}
-
 /// An event that a proxy counts.
 #[derive(Clone, Copy, Debug, PartialEq, Eq)]
 pub enum Counted {
@@ -77,20 +41,10 @@ pub enum Counted {
     Rejected,
     /// A client was closed, because too many bytes waited for it.
     Unread,
-    /// A client that was opened by [`Proxy::enter`](crate::Proxy::enter) is open. It was accepted
-    /// before.
-    Entered,
-    /// A client that [`Proxy::leave`](crate::Proxy::leave) has closed no longer shares the
-    /// connection.
+    /// A client that [`Proxy::leave`](crate::Proxy::leave) has closed has a connection of its own.
     OwnOpened,
-    /// Such a client was closed for good, or was opened by [`Proxy::enter`](crate::Proxy::enter).
+    /// Such a client was closed.
     OwnClosed,
-    /// This many commands were queued at this time.
-    Queued(usize, Duration),
-    /// This many commands have their replies at this time.
-    Replied(usize, Duration),
-    /// This many commands got the error for a lost or missing connection.
-    Failed(usize),
     /// A connection to the server was opened for all clients.
     Connected,
 }
@@ -98,117 +52,95 @@ pub enum Counted {
 /// The counts of a proxy, and the times of its replies.
 #[derive(Drop)]
 pub(crate) struct ProxyCounts {
+    /// The lines of the proxy, and how many of them no client uses.
+    lines: Vec<LineId>,
+    idle_lines: usize,
     /// The clients of the board that are the proxy's own.
     hidden: u64,
-    /// The clients that came from another proxy, or came back.
-    entered: u64,
     rejected: u64,
     unread: u64,
     own: u64,
     commands: u64,
     failed: u64,
     connections: u64,
-    latency: Latency,
-    /// The numbers of the other proxies of the program, and the times of all.
-    others: Numbers,
-    times: Option<Times>,
+    times: ReplyTimes,
     /// The commands of clients, by name.
     pub(crate) commands_by_name: NameCounts,
     /// The error replies.
     pub(crate) errors: ErrorCounts,
-    /// The lines about commands by name and error replies, if they are counted elsewhere.
-    pub(crate) count_lines: Option<String>,
 }
 
 impl ProxyCounts {
     /// Returns the counts of a proxy that begins.
     pub(crate) fn new(alloc: Global) -> Result<Self, AllocError> {
         Ok(ProxyCounts {
+            lines: Vec::new(alloc),
+            idle_lines: 0,
             hidden: 0,
-            entered: 0,
             rejected: 0,
             unread: 0,
             own: 0,
             commands: 0,
             failed: 0,
             connections: 0,
-            latency: Latency::new(alloc),
-            others: Numbers::default(),
-            times: None,
+            times: ReplyTimes::new(),
             commands_by_name: NameCounts::new(alloc)?,
             errors: ErrorCounts::new(alloc)?,
-            count_lines: None,
         })
     }
 
+    /// Makes room for one more line.
+    pub(crate) fn make_room_for_line(&mut self) -> Result<(), AllocError> {
+        self.lines.reserve(1)
+    }
+
+    /// Counts a line that was opened. It is not counted if there is no room for it.
+    pub(crate) fn add_line(&mut self, line: LineId) {
+        let _ = self.lines.push(line);
+    }
+
+    /// Sets the number of lines that no client uses.
+    pub(crate) fn set_idle_lines(&mut self, idle: usize) {
+        self.idle_lines = idle;
+    }
+
     /// Returns the numbers, with those of the board.
-    pub(crate) fn numbers(&self, board: &Board, line: LineId) -> Numbers {
+    pub(crate) fn numbers(&self, board: &Board) -> Numbers {
         let open = board.open_clients() as u64;
+        let (mut waiting, mut unsent) = (0, 0);
+        for line in &self.lines {
+            waiting = u64::saturating_add(waiting, board.waiting(*line) as u64);
+            unsent = u64::saturating_add(unsent, board.to_server(*line).len() as u64);
+        }
         Numbers {
             clients: self.own.saturating_add(open.saturating_sub(self.hidden)),
-            accepted: board
-                .opened_clients()
-                .saturating_sub(self.hidden)
-                .saturating_sub(self.entered),
+            accepted: board.opened_clients().saturating_sub(self.hidden),
             rejected: self.rejected,
             unread: self.unread,
             own: self.own,
             commands: self.commands,
             failed: self.failed,
             connections: self.connections,
-            waiting: board.waiting(line) as u64,
-            unsent: board.to_server(line).len() as u64,
-            lines: 1,
+            waiting,
+            unsent,
+            lines: self.lines.len().saturating_sub(self.idle_lines) as u64,
         }
     }
 
-    /// Returns the numbers of all proxies of the program.
-    pub(crate) fn all(&self, board: &Board, line: LineId) -> Numbers {
-        self.numbers(board, line).plus(self.others)
+    /// Returns the number of clients that have a connection of their own.
+    pub(crate) fn own(&self) -> u64 {
+        self.own
     }
 
-    /// Returns how long replies took, over all proxies of the program.
+    /// Returns how long replies took.
     pub(crate) fn times(&self) -> Times {
-        match self.times {
-            Some(times) => times,
-            None => self.latency.times(),
-        }
+        self.times.times()
     }
 
     /// Adds the lines about commands by name and error replies to a text.
     pub(crate) fn add_lines(&self, alloc: Global, text: &mut String) -> Result<(), AllocError> {
-        match &self.count_lines {
-            Some(lines) => text.push_str(lines.as_str()),
-            None => {
-                let lines = self.lines(alloc)?;
-                text.push_str(lines.as_str())
-            }
-        }
-    }
-
-    /// Returns the lines about commands by name, followed by those about error replies.
-    pub(crate) fn lines(&self, alloc: Global) -> Result<String, AllocError> {
-        let mut text = self.commands_by_name.lines(alloc)?;
-        text.push_str(self.errors.lines(alloc)?.as_str())?;
-        Ok(text)
-    }
-
-    /// Moves the counts of commands by name and of error replies from another proxy to this one.
-    pub(crate) fn take(&mut self, other: &mut ProxyCounts) {
-        self.commands_by_name.take(&mut other.commands_by_name);
-        self.errors.take(&mut other.errors);
-    }
-
-    /// Sets the numbers of the other proxies of the program, and the times of all if they are not
-    /// counted here.
-    pub(crate) fn set_others(&mut self, others: Numbers, times: Option<Times>) {
-        self.others = others;
-        self.times = times;
-    }
-
-    /// Moves the times of another proxy to this one.
-    pub(crate) fn take_times(&mut self, other: &mut ProxyCounts) {
-        self.latency.take_times(&mut other.latency);
+        text.push_str(self.commands_by_name.lines(alloc)?.as_str())?;
+        text.push_str(self.errors.lines(alloc)?.as_str())
     }
 
     /// Does not count a client of the board, because it is the proxy's own.
@@ -216,24 +148,31 @@ impl ProxyCounts {
         self.hidden = self.hidden.saturating_add(1);
     }
 
-    /// Counts.
+    /// Counts an event.
     pub(crate) fn add(&mut self, counted: Counted) {
         match counted {
             Counted::Rejected => self.rejected = self.rejected.saturating_add(1),
             Counted::Unread => self.unread = self.unread.saturating_add(1),
-            Counted::Entered => self.entered = self.entered.saturating_add(1),
             Counted::OwnOpened => self.own = self.own.saturating_add(1),
             Counted::OwnClosed => self.own = self.own.saturating_sub(1),
             Counted::Connected => self.connections = self.connections.saturating_add(1),
-            Counted::Queued(count, now) => {
-                self.commands = self.commands.saturating_add(count as u64);
-                self.latency.queue(count, now);
-            }
-            Counted::Replied(count, now) => self.latency.reply(count, now),
-            Counted::Failed(count) => {
-                self.failed = self.failed.saturating_add(count as u64);
-                self.latency.forget(count);
-            }
         }
+    }
+
+    /// Counts commands that were queued at this time on a line.
+    pub(crate) fn add_queued(&mut self, waits: &mut Waits, count: usize, now: Duration) {
+        self.commands = self.commands.saturating_add(count as u64);
+        waits.queue(count, now);
+    }
+
+    /// Counts commands of a line that have their replies at this time.
+    pub(crate) fn add_replied(&mut self, waits: &mut Waits, count: usize, now: Duration) {
+        waits.reply(count, now, &mut self.times);
+    }
+
+    /// Counts commands of a line whose reply was the error for a lost or missing connection.
+    pub(crate) fn add_failed(&mut self, waits: &mut Waits, count: usize) {
+        self.failed = self.failed.saturating_add(count as u64);
+        waits.forget(count);
     }
 }

@@ -1,5 +1,6 @@
 //! The errors of a proxy.
 
+use resp_board::OwnError;
 use resp_frames::FrameError;
 use thiserror::Error;
 
@@ -45,6 +46,28 @@ pub enum ClientError {
     /// The proxy does not have this client: another proxy opened it.
     #[error("no client with this id is open")]
     NoClient,
+    /// An allocation failed.
+    #[error("out of memory")]
+    OutOfMemory,
+}
+
+/// Why the commands of a client do not go to another line.
+#[derive(Clone, Copy, Debug, PartialEq, Eq, Error)]
+pub enum EnterError {
+    /// Its next command needs no other connection, or it has not got the replies to all commands.
+    #[error("the client may not leave its line")]
+    Stays,
+    /// It can't get the reply to its next command.
+    #[error(transparent)]
+    Own(OwnError),
+}
+
+/// Why a line is not used for another setting.
+#[derive(Clone, Copy, Debug, PartialEq, Eq, Error)]
+pub enum RenewError {
+    /// A command waits on the line.
+    #[error("a command waits on the line")]
+    Waits,
     /// An allocation failed.
     #[error("out of memory")]
     OutOfMemory,

@@ -1,11 +1,11 @@
 //! Error replies of the server, counted by the first word of their text.
 
 ghost use Rattle.std.specs.Prelude.{◌≡◌, ◌<◌, ◌≤◌, ℕ, List, length, option_map, slice_get, true, false, IfNone, IfSome};
-ghost use Rattle.resp_proxy.specs.ErrorRows.{AddsErrors, CountsErrors, IsNewRow, MayAddRow, has_word, row_has};
+ghost use Rattle.resp_proxy.specs.ErrorRows.{AddsError, CountsError, IsNewRow, MayAddRow, has_word, row_has};
 
 use arrayvec::ArrayVec;
 use std::alloc::{AllocError, Global};
-use std::{mem, str};
+use std::str;
 
 /// The maximum number of rows: one for each of 128 words, and the first for all other errors.
 const MOST_ROWS: usize = 129;
@@ -14,7 +14,7 @@ const MOST_ROWS: usize = 129;
 const LONGEST: usize = 32;
 
 /// The maximum number of bytes of a reply that are examined: `-`, a word, and the byte after it.
-const FRONT: usize = 34;
+const EXAMINED: usize = 34;
 
 /// The number of errors whose texts begin with one word. It saturates at its maximum.
 #[derive(Drop)]
@@ -30,8 +30,6 @@ pub(crate) struct ErrorRow {
 #[derive(Drop)]
 pub(crate) struct ErrorCounts {
     pub(crate) rows: Vec<ErrorRow>,
-    /// The first bytes of the incomplete reply.
-    front: ArrayVec<u8, FRONT>,
     ghost some: { 0 < length rows.items },
     ghost few: { length rows.items ≤ 129 },
 }
@@ -46,16 +44,17 @@ fn row_has(row: Option<&ErrorRow>, word: &[u8]) -> bool
     }
 }
 
-/// Returns the first word of the text of an error, given the first bytes of the reply. Returns
-/// `None` if the word has no row of its own.
-fn word_of(front: &[u8]) -> Option<&[u8]> {
+/// Returns the first word of the text of an error, given the reply. Returns `None` if the word has no
+/// row of its own.
+fn word_of(reply: &[u8]) -> Option<&[u8]> {
+    let examined = reply.len().min(EXAMINED);
     let mut length = 1;
-    while length < front.len() && is_of_word(front[length]) {
+    while length < examined && is_of_word(reply[length]) {
         length += 1;
     }
-    let is_whole = matches!(front.get(length), Some(b' ' | b'\r'));
+    let is_whole = length < examined && matches!(reply.get(length), Some(b' ' | b'\r'));
     if length > 1 && is_whole {
-        front.get(1..length)
+        reply.get(1..length)
     } else {
         None
     }
@@ -74,62 +73,24 @@ impl ErrorCounts {
             word: ArrayVec::new(),
             count: 0,
         })?;
-        Ok(ErrorCounts {
-            rows,
-            front: ArrayVec::new(),
-        })
+        Ok(ErrorCounts { rows })
     }
 
-    /// Counts a reply that ends in this piece, if it is an error. `is_begun` says whether it began
-    /// in an earlier piece.
+    /// Counts a reply if it is an error.
     #[inline(always)]
-    pub(crate) fn end(&mut self, is_begun: bool, piece: &[u8]) {
-        if is_begun || piece.first() == Some(&b'-') {
-            self.hold(is_begun, piece);
-            self.count_front();
+    pub(crate) fn note(&mut self, reply: &[u8]) {
+        if reply.first() == Some(&b'-') {
+            self.note_error(reply);
         }
     }
 
-    /// Holds the first bytes of a reply that does not end in this piece.
-    pub(crate) fn hold(&mut self, is_begun: bool, piece: &[u8]) {
-        if !is_begun {
-            self.front = ArrayVec::new();
-        }
-        for byte in piece {
-            if self.front.is_full() {
-                return;
-            }
-            self.front.push(*byte);
-        }
-    }
-
-    /// Counts the reply that begins with the bytes that are held, if it is an error.
-    fn count_front(&mut self) {
-        let front = mem::replace(&mut self.front, ArrayVec::new());
-        if front.as_slice().first() != Some(&b'-') {
-            return;
-        }
-        let place = match word_of(front.as_slice()) {
+    /// Counts a reply that is an error.
+    fn note_error(&mut self, reply: &[u8]) {
+        let place = match word_of(reply) {
             Some(word) => self.place_of(word),
             None => 0,
         };
-        self.count(place, 1);
-    }
-
-    /// Moves the counts of errors from another proxy to this one.
-    pub(crate) fn take(&mut self, other: &mut ErrorCounts) {
-        for from in 0..other.rows.len() {
-            let row = &mut other.rows[from];
-            if row.count > 0 {
-                let place = if from > 0 {
-                    self.place_of(row.word.as_slice())
-                } else {
-                    0
-                };
-                self.count(place, row.count);
-                row.count = 0;
-            }
-        }
+        self.count(place);
     }
 
     /// Returns a line for each first word of an error, in the order of the words, and then a line
@@ -203,21 +164,21 @@ impl ErrorCounts {
         None
     }
 
-    /// Counts this many errors in the row at this place.
-    fn count(&mut self, place: usize, count: u64)
+    /// Counts an error in the row at this place.
+    fn count(&mut self, place: usize)
         requires { place < length self.old.rows.items }
-        ensures { CountsErrors place count self.old.rows.items self.new.rows.items }
+        ensures { CountsError place self.old.rows.items self.new.rows.items }
     {
-        self.rows[place].add(count);
+        self.rows[place].add_one();
     }
 }
 
 impl ErrorRow {
-    /// Counts this many errors.
-    fn add(&mut self, count: u64)
-        ensures { AddsErrors count self.old self.new }
+    /// Counts an error.
+    fn add_one(&mut self)
+        ensures { AddsError self.old self.new }
     {
-        self.count = self.count.saturating_add(count);
+        self.count = self.count.saturating_add(1);
     }
 }
 

@@ -10,6 +10,7 @@ ghost use Rattle.resp_proxy.specs.Unfinished.{terms_by, terms_of};
 ghost use Rattle.resp_value.specs.Words.{texts_of};
 
 use crate::answer::needs_own;
+use crate::route::Route;
 use crate::settings::Settings;
 use resp_commands::entry;
 use resp_frames::{CommandFrame, Frames};
@@ -28,8 +29,6 @@ pub(crate) struct Intake {
     pub(crate) admitted: Vec<Vec<u8>>,
     /// Whether a client may get a connection of its own.
     pub(crate) admits_own: bool,
-    /// Whether the proxy itself replies to HELLO and SELECT if they change nothing.
-    pub(crate) answers_settings: bool,
 }
 
 impl Intake {
@@ -44,7 +43,6 @@ impl Intake {
             lines: settings.lines,
             admitted: Vec::new(alloc),
             admits_own: false,
-            answers_settings: settings.answers_settings,
         })
     }
 
@@ -63,12 +61,13 @@ impl Intake {
         }
     }
 
-    /// Returns whether a command needs a dedicated connection, and the client may get one.
-    pub(crate) fn sets_aside(&self, command: &CommandFrame) -> bool
+    /// Returns whether a command of a client on this route needs a dedicated connection, and the client
+    /// may get one.
+    pub(crate) fn sets_aside(&self, route: Route, command: &CommandFrame) -> bool
         ensures admitted { IsTrue result → self.now.admits_own ≡ true }
         ensures needed { IsTrue result → IsForOwn command.now.words.class }
     {
-        self.admits_own && needs_own(&self.frames, self.answers_settings, command)
+        self.admits_own && needs_own(&self.frames, route.is_first, command)
     }
 
     /// Returns whether a command that the table does not have is sent: it is one of the admitted

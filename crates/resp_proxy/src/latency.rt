@@ -16,13 +16,18 @@ struct Run {
     since: Duration,
 }
 
-/// How long the replies of the last one to two minutes took, from the time at which the proxy read
-/// the command to the time at which it read the reply.
+/// Since when the commands of one line wait for their replies.
 #[derive(Drop)]
-pub(crate) struct Latency {
+pub(crate) struct Waits {
     /// The commands that wait for a reply, and those that were queued last.
     runs: VecDeque<Run>,
     last: Run,
+}
+
+/// How long the replies of the last one to two minutes took, from the time at which the proxy read
+/// the command to the time at which it read the reply.
+#[derive(Drop)]
+pub(crate) struct ReplyTimes {
     /// The times of this minute, and those of the minute before.
     recent: Histogram,
     older: Histogram,
@@ -41,19 +46,15 @@ pub struct Times {
     pub most: u64,
 }
 
-impl Latency {
-    /// Returns the times of no replies. Does not allocate.
+impl Waits {
+    /// Returns the state in which no command waits. Does not allocate.
     pub(crate) fn new(alloc: Global) -> Self {
-        let zero = Duration::from_millis(0);
-        Latency {
+        Waits {
             runs: VecDeque::new(alloc),
             last: Run {
                 count: 0,
-                since: zero,
+                since: Duration::from_millis(0),
             },
-            recent: Histogram::new(),
-            older: Histogram::new(),
-            until: zero,
         }
     }
 
@@ -69,9 +70,10 @@ impl Latency {
         self.last.count = self.last.count.saturating_add(count);
     }
 
-    /// Notes that the first commands that wait have their replies at this time.
-    pub(crate) fn reply(&mut self, count: usize, now: Duration) {
-        self.look_at_time(now);
+    /// Notes that the first commands that wait have their replies at this time, and adds how long
+    /// they took.
+    pub(crate) fn reply(&mut self, count: usize, now: Duration, times: &mut ReplyTimes) {
+        times.look_at_time(now);
         let mut rest = count;
         for _ in 0..count {
             let Some(run) = self.take(rest) else {
@@ -79,7 +81,7 @@ impl Latency {
             };
             let micros = now.saturating_sub(run.since).as_micros();
             let micros = u64::try_from(micros).unwrap_or(u64::MAX);
-            self.recent.add(micros, run.count as u64);
+            times.recent.add(micros, run.count as u64);
             rest = rest.saturating_sub(run.count);
         }
     }
@@ -106,13 +108,16 @@ impl Latency {
         }
         taken
     }
+}
 
-    /// Moves the times of another proxy to the current minute of this one.
-    pub(crate) fn take_times(&mut self, other: &mut Latency) {
-        let taken = mem::replace(&mut other.recent, Histogram::new());
-        self.recent.append(&taken);
-        let taken = mem::replace(&mut other.older, Histogram::new());
-        self.older.append(&taken);
+impl ReplyTimes {
+    /// Returns the times of no replies.
+    pub(crate) fn new() -> Self {
+        ReplyTimes {
+            recent: Histogram::new(),
+            older: Histogram::new(),
+            until: Duration::from_millis(0),
+        }
     }
 
     /// Drops the times of the minute before if this minute is over.

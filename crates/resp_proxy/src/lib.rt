@@ -1,4 +1,4 @@
-//! A proxy that shares one connection to a server among many clients, without sockets.
+//! A proxy that shares connections to a server among many clients, without sockets.
 //!
 //! [`Proxy::visit_client`] and [`Proxy::visit_server`] make at most one read and one write over any
 //! reader and writer. [`Proxy::from_client`] and [`Proxy::from_server`] take bytes that were read.
@@ -13,10 +13,8 @@ mod error;
 mod error_counts;
 mod giving;
 mod hello;
-mod identity;
 mod intake;
 mod latency;
-pub mod laws;
 mod lines;
 mod local;
 mod moving;
@@ -26,6 +24,7 @@ mod probing;
 mod proxy;
 mod replies;
 mod route;
+mod server_line;
 mod setting;
 mod settings;
 mod taking;
@@ -36,11 +35,12 @@ mod wish;
 pub use answer::no_more;
 pub use client::Client;
 pub use counts::{Counted, Numbers};
-pub use error::{ClientError, CommandName, ServerError};
+pub use error::{ClientError, CommandName, EnterError, RenewError, ServerError};
 pub use giving::WriteOutcome;
 pub use latency::Times;
-pub use moving::{Departed, is_client_name};
+pub use moving::is_client_name;
 pub use proxy::Proxy;
+pub use server_line::ServerLine;
 pub use setting::{Login, Setting};
 pub use settings::Settings;
 pub use visit::{ClientVisit, Read, ServerVisit};

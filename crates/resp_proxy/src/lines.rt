@@ -13,7 +13,6 @@ ghost use Rattle.resp_proxy.specs.Unfinished.{terms_of};
 use crate::carrying::carry_out;
 use crate::counts::ProxyCounts;
 use crate::error::ClientError;
-use crate::identity::Identity;
 use crate::intake::Intake;
 use crate::part::Part;
 use crate::route::Route;
@@ -32,7 +31,7 @@ pub(crate) fn take_line(
     intake: &Intake,
     counts: &mut ProxyCounts,
     line: &mut Vec<u8>,
-    identity: &mut Identity,
+    name: &mut Vec<u8>,
     board: &mut Board,
     route: Route,
     piece: &[u8],
@@ -63,7 +62,7 @@ pub(crate) fn take_line(
     let Some(text) = text else {
         return Ok(Part::Whole(used));
     };
-    if needs_own_text(intake, text.as_slice()) {
+    if needs_own_text(intake, route, text.as_slice()) {
         return match with_end(content) {
             Ok(line) => Ok(Part::Aside(used, line)),
             Err(AllocError) => Err(ClientError::OutOfMemory),
@@ -74,7 +73,7 @@ pub(crate) fn take_line(
         settings,
         intake,
         counts,
-        identity,
+        name,
         board,
         route,
         text.as_slice(),
@@ -86,14 +85,14 @@ pub(crate) fn take_line(
 
 /// Returns whether the command with this text needs a dedicated connection, and the client may get
 /// one.
-fn needs_own_text(intake: &Intake, text: &[u8]) -> bool
+fn needs_own_text(intake: &Intake, route: Route, text: &[u8]) -> bool
     ensures admitted { IsTrue result → intake.now.admits_own ≡ true }
     ensures needed { IsCommand (terms_of intake.now).rules.limits text.now → IsTrue result →
         BeginsForOwn (terms_of intake.now).rules.limits text.now }
 {
     no_spelling_begins_another();
     match command_of_piece(text, &intake.frames.limits()) {
-        Some(command) => intake.sets_aside(&command),
+        Some(command) => intake.sets_aside(route, &command),
         None => false,
     }
 }
@@ -127,7 +126,7 @@ fn carry_out_text(
     settings: &Settings,
     intake: &Intake,
     counts: &mut ProxyCounts,
-    identity: &mut Identity,
+    name: &mut Vec<u8>,
     board: &mut Board,
     route: Route,
     text: &[u8],
@@ -143,7 +142,7 @@ fn carry_out_text(
     no_spelling_begins_another();
     match command_of_piece(text, &intake.frames.limits()) {
         Some(command) => carry_out(
-            alloc, settings, intake, counts, identity, board, route, &command,
+            alloc, settings, intake, counts, name, board, route, &command,
         ),
         None => Err(ClientError::OverLimits),
     }

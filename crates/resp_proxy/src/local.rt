@@ -3,7 +3,7 @@
 use crate::counts::{Numbers, ProxyCounts};
 use crate::latency::Times;
 use crate::settings::Settings;
-use resp_board::{Board, LineId};
+use resp_board::Board;
 use resp_frames::CommandFrame;
 use resp_scan::whole;
 use std::alloc::{AllocError, Global};
@@ -19,7 +19,6 @@ pub(crate) fn local_answer(
     settings: &Settings,
     counts: &ProxyCounts,
     board: &Board,
-    line: LineId,
     command: &CommandFrame,
 ) -> Result<Option<Vec<u8>>, AllocError> {
     if !may_be_answered(command) {
@@ -29,7 +28,7 @@ pub(crate) fn local_answer(
         return Ok(None);
     };
     if name.eq_ignore_ascii_case(b"INFO") {
-        return info(alloc, settings, counts, board, line, command.frame.text());
+        return info(alloc, settings, counts, board, command.frame.text());
     }
     if settings.local_ping && name.eq_ignore_ascii_case(b"PING") {
         return pong(alloc, settings, command.frame.text());
@@ -54,7 +53,6 @@ fn info(
     settings: &Settings,
     counts: &ProxyCounts,
     board: &Board,
-    line: LineId,
     text: &[u8],
 ) -> Result<Option<Vec<u8>>, AllocError> {
     let Some(words) = whole::command(text, &settings.limits) else {
@@ -65,17 +63,12 @@ fn info(
     if !words.name.eq_ignore_ascii_case(b"INFO") || !section.eq_ignore_ascii_case(b"proxy") {
         return Ok(None);
     }
-    let section = section_of(alloc, counts, board, line)?;
+    let section = section_of(alloc, counts, board)?;
     bulk(alloc, section.as_str().as_bytes())
 }
 
 /// Returns the text of the section `proxy`.
-fn section_of(
-    alloc: Global,
-    counts: &ProxyCounts,
-    board: &Board,
-    line: LineId,
-) -> Result<String, AllocError> {
+fn section_of(alloc: Global, counts: &ProxyCounts, board: &Board) -> Result<String, AllocError> {
     let Numbers {
         clients,
         accepted,
@@ -88,7 +81,7 @@ fn section_of(
         waiting,
         unsent,
         lines,
-    } = counts.all(board, line);
+    } = counts.numbers(board);
     let Times {
         median,
         percentile_99,

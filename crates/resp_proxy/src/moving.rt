@@ -1,66 +1,45 @@
-//! Clients that move from one proxy to another, or to a connection of their own.
+//! Clients whose next command needs another line, or a connection of their own.
 
-ghost use Rattle.std.specs.Prelude.{◌≡◌, ◌↔◌, ◌++◌, ◌≤◌, List, ℕ, drop, false, length, IfErr, IfOk, IsTrue, OnErr};
-ghost use Rattle.resp_board.specs.Runs.{HasClosed, KeepsRun};
-ghost use Rattle.resp_proxy.specs.Clients.{Holds, client_id, is_closing, is_leaving, waits_for_room};
-ghost use Rattle.resp_proxy.specs.Moving.{HasEntered, MayLeave, identity_in, identity_of, name_of, number_of, rest_of};
+ghost use Rattle.std.specs.Prelude.{◌≡◌, ◌↔◌, ◌≤◌, drop, false, length, IfErr, IfOk, IsErrOf, IsTrue, OnErr, OnOk};
+ghost use Rattle.resp_board.specs.Runs.{ClientIsFull, HasClosed, KeepsOpen, KeepsRun};
+ghost use Rattle.resp_proxy.specs.Clients.{Holds, client_id, is_closing, is_leaving, route_of, waits_for_room};
+ghost use Rattle.resp_proxy.specs.Moving.{IsAnswered, MayLeave, name_of, number_of};
 ghost use Rattle.resp_proxy.specs.Hellos.{IsReplyWithNumber, own_reply};
 ghost use Rattle.resp_value.specs.Canonical.{canonical_text};
-ghost use Rattle.resp_proxy.specs.Proxies.{board_in, replied_to, reply_rules_of, terms_of};
+ghost use Rattle.resp_proxy.specs.Proxies.{board_in, replied_to, terms_of};
+ghost use Rattle.resp_proxy.specs.ServerLines.{route_to};
 
 use crate::answer::is_name;
 use crate::client::Client;
-use crate::counts::Counted;
+use crate::error::EnterError;
 use crate::giving::has_all;
 use crate::hello::{hello_text, with_number};
-use crate::identity::Identity;
 use crate::proxy::Proxy;
-use crate::route::Route;
+use crate::server_line::ServerLine;
 use bytes::BytesMut;
-use resp_board::OpenError;
+use resp_board::OwnError;
+use resp_frames::Unfinished;
 use resp_value::version::Version;
 use std::alloc::{AllocError, Global};
 
-/// A client that has left a proxy after it got the replies to all its commands: its number, its
-/// name, and the bytes from its next command on.
-#[derive(Drop)]
-pub struct Departed {
-    pub(crate) identity: Identity,
-    pub(crate) rest: BytesMut,
-}
-
-impl Departed {
-    /// Returns the bytes from the next command of the client on.
+impl Client {
+    /// Returns the bytes of this client that wait for room, or the bytes from its next command on if
+    /// it is leaving.
     pub fn rest(&self) -> &[u8]
-        ensures { result.now ≡ rest_of self.now }
+        ensures { result.now ≡ waits_for_room self.now }
     {
         self.rest.as_slice()
-    }
-
-    /// Removes the first bytes: those of a command that got its reply.
-    pub fn skip(&mut self, count: usize)
-        requires { count ≤ length (rest_of self.old) }
-        ensures rest { rest_of self.new ≡ drop count (rest_of self.old) }
-        ensures same_number { number_of self.new ≡ number_of self.old }
-    {
-        self.rest.advance(count);
-    }
-
-    /// Returns the bytes from the next command on. They are sent over the client's own connection.
-    pub fn into_rest(self) -> BytesMut
-        ensures { result.items ≡ rest_of self }
-    {
-        let Departed { rest, .. } = self;
-        rest
     }
 
     /// Gives the client a name, as HELLO does with SETNAME. An empty name means no name.
     pub fn set_name(&mut self, name: Vec<u8>)
         ensures named { name_of self.new ≡ name.items }
-        ensures same_rest { rest_of self.new ≡ rest_of self.old }
-        ensures same_number { number_of self.new ≡ number_of self.old }
+        ensures same_rest { waits_for_room self.new ≡ waits_for_room self.old }
+        ensures same_client { route_of self.new ≡ route_of self.old }
+        ensures same_leaving { is_leaving self.new ≡ is_leaving self.old }
+        ensures same_closing { is_closing self.new ≡ is_closing self.old }
     {
-        self.identity.name = name;
+        self.name = name;
     }
 
     /// Returns the reply to HELLO for this client. `reply` is the reply of the server to HELLO over
@@ -81,8 +60,8 @@ impl Departed {
             IsReplyWithNumber (number_of self.now) reply.now text.items) }
     {
         match version {
-            Version::Two => hello_text(alloc, self.identity.number),
-            Version::Three => with_number(alloc, reply, self.identity.number),
+            Version::Two => hello_text(alloc, self.route.client.number),
+            Version::Three => with_number(alloc, reply, self.route.client.number),
         }
     }
 }
@@ -95,24 +74,24 @@ pub fn is_client_name(name: &[u8]) -> bool {
 
 impl Proxy {
     /// Returns whether a client is leaving, no command of it waits, and all its replies were
-    /// written. Call [`Proxy::leave`] then.
+    /// written. Call [`Proxy::enter`] or [`Proxy::leave`] then.
     pub fn may_leave(&self, client: &Client) -> bool
         ensures { IsTrue result ↔ MayLeave (board_in self.now) client.now }
     {
         client.is_leaving && has_all(&self.board, client.route.client)
     }
 
-    /// Closes a client that may leave: its next command needs another connection, and it has got
-    /// the replies to all commands before. Returns what it keeps, with the bytes from this command
-    /// on.
+    /// Closes a client that may leave: its next command needs a connection of its own, and it has got
+    /// the replies to all commands before. Returns its bytes from this command on. They are the
+    /// first that are sent over that connection.
     ///
     /// # Errors
     ///
     /// The client, if it may not leave. Nothing changes.
-    pub fn leave(&mut self, client: Client) -> Result<Departed, Client>
-        ensures left { IfOk result (λ departed. MayLeave (board_in self.old) client) }
-        ensures bytes { IfOk result (λ departed. rest_of departed ≡ waits_for_room client) }
-        ensures closed { IfOk result (λ departed.
+    pub fn leave(&mut self, client: Client) -> Result<BytesMut, Client>
+        ensures left { IfOk result (λ rest. MayLeave (board_in self.old) client) }
+        ensures bytes { IfOk result (λ rest. rest.items ≡ waits_for_room client) }
+        ensures closed { IfOk result (λ rest.
             HasClosed (board_in self.old) (board_in self.new) (client_id client)) }
         ensures stays { IfErr result (λ same. (same ≡ client) × (self.new ≡ self.old) ×
             (MayLeave (board_in self.old) client → ⊥)) }
@@ -124,46 +103,56 @@ impl Proxy {
             return Err(client);
         }
         self.board.close(client.route.client);
-        let Client { identity, rest, .. } = client;
-        Ok(Departed { identity, rest })
+        let Client { rest, .. } = client;
+        Ok(rest)
     }
 
-    /// Opens a client that has left this proxy or another one. It gets this reply first, and holds
-    /// the bytes that it left with. No client had its id in this proxy before.
+    /// Lets the commands of a client that may leave go to this line from now on. `used` is the
+    /// number of bytes of its next command, which gets this reply of the proxy itself. The line may
+    /// be the one that the client has used before.
     ///
     /// # Errors
     ///
-    /// Those of [`Proxy::open`]. What the client had is lost.
-    pub fn enter(&mut self, departed: Departed, reply: &[u8]) -> Result<Client, OpenError>
-        ensures entered { IfOk result (λ client.
-            HasEntered (board_in self.old) (board_in self.new) (client_id client) reply.now) }
-        ensures holds { IfOk result (λ client.
-            Holds (terms_of self.new) client (rest_of departed)) }
-        ensures is_open { IfOk result (λ client. is_closing client ≡ false) }
-        ensures shares { IfOk result (λ client. is_leaving client ≡ false) }
-        ensures identity { IfOk result (λ client. identity_in client ≡ identity_of departed) }
-        ensures unchanged { OnErr result (KeepsRun (board_in self.old) (board_in self.new)) }
+    /// `Stays` if the client may not leave, and an [`OwnError`] if it can't get the reply. Nothing
+    /// changes.
+    pub fn enter(
+        &mut self,
+        client: &mut Client,
+        line: &ServerLine,
+        used: usize,
+        reply: &[u8],
+    ) -> Result<(), EnterError>
+        requires { used ≤ length (waits_for_room client.old) }
+        // The client got the replies to all commands before.
+        ensures all { OnOk result (MayLeave (board_in self.old) client.old) }
+        ensures answered { OnOk result (IsAnswered (board_in self.old) (board_in self.new)
+            (client_id client.old) reply.now) }
+        ensures route { OnOk result
+            (route_of client.new ≡ route_to line.now (client_id client.old)) }
+        ensures holds { OnOk result (Holds (terms_of self.new) client.new
+            (drop used (waits_for_room client.old))) }
+        ensures shares { OnOk result (is_leaving client.new ≡ false) }
+        ensures same_closing { is_closing client.new ≡ is_closing client.old }
+        ensures same_name { name_of client.new ≡ name_of client.old }
+        ensures stays { IsErrOf result EnterError.Stays ↔
+            (MayLeave (board_in self.old) client.old → ⊥) }
+        ensures unchanged { OnErr result ((client.new ≡ client.old) ×
+            KeepsRun (board_in self.old) (board_in self.new)) }
+        ensures same_clients { KeepsOpen (board_in self.old) (board_in self.new) }
         ensures same_terms { terms_of self.new ≡ terms_of self.old }
-        ensures same_reply_rules { reply_rules_of self.new ≡ reply_rules_of self.old }
         ensures same_replied { replied_to self.new ≡ replied_to self.old }
     {
-        let id = match self.board.open() {
-            Ok(id) => id,
-            Err(error) => return Err(error),
-        };
-        if self.board.own(id, reply).is_err() {
-            self.board.close(id);
-            return Err(OpenError::OutOfMemory);
+        if !self.may_leave(client) {
+            return Err(EnterError::Stays);
         }
-        self.counts.add(Counted::Entered);
-        let Departed { identity, rest } = departed;
-        let route = Route {
-            client: id,
-            line: self.line,
-        };
-        let mut client = Client::new(self.alloc, route);
-        client.identity = identity;
-        client.rest = rest;
-        Ok(client)
+        match self.board.own(client.route.client, reply) {
+            Ok(()) => {}
+            Err(error) => return Err(EnterError::Own(error)),
+        }
+        client.unfinished = Unfinished::new(self.alloc);
+        client.rest.advance(used);
+        client.is_leaving = false;
+        client.route = line.route(client.route.client);
+        Ok(())
     }
 }

@@ -2,7 +2,7 @@
 
 ghost use Rattle.std.specs.Prelude.{◌≡◌, length};
 ghost use Rattle.resp_commands.specs.declared.table.TheConstants.{COMMANDS};
-ghost use Rattle.resp_proxy.specs.NameRows.{AddsCommands, CountsCommand};
+ghost use Rattle.resp_proxy.specs.NameRows.{AddsCommand, CountsCommand};
 
 use resp_commands::COMMANDS;
 use std::alloc::{AllocError, Global};
@@ -30,25 +30,17 @@ impl NameCounts {
         ensures { CountsCommand place self.old.counts.items self.new.counts.items }
     {
         if let Some(place) = place {
-            self.add_at(usize::from(place), 1);
+            self.add_at(usize::from(place));
         }
     }
 
-    /// Counts this many commands at a place of the table, if the table has it.
+    /// Counts a command at a place of the table, if the table has it.
     #[inline(always)]
-    fn add_at(&mut self, place: usize, count: u64)
-        ensures { AddsCommands place count self.old.counts.items self.new.counts.items }
+    fn add_at(&mut self, place: usize)
+        ensures { AddsCommand place self.old.counts.items self.new.counts.items }
     {
         if place < self.counts.len() {
-            self.counts[place] = self.counts[place].saturating_add(count);
-        }
-    }
-
-    /// Moves the counts of commands from another proxy to this one.
-    pub(crate) fn take(&mut self, other: &mut NameCounts) {
-        for place in 0..other.counts.len() {
-            self.add_at(place, other.counts[place]);
-            other.counts[place] = 0;
+            self.counts[place] = self.counts[place].saturating_add(1);
         }
     }
 

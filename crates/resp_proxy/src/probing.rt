@@ -1,6 +1,6 @@
 //! Probes of the connection to the server: the proxy's own commands, whose replies are known.
 
-ghost use Rattle.std.specs.Prelude.{◌≡◌, ℕ, List, ◌⊎◌, ◌++◌, None, [], codes, false, IfOk, IsTrue, OnErr, OnOk};
+ghost use Rattle.std.specs.Prelude.{◌≡◌, ℕ, List, ◌⊎◌, ◌++◌, None, Some, [], codes, false, IfOk, IsTrue, OnErr, OnOk};
 ghost use Rattle.resp_proxy.specs.Probing.{AreInStep, IsAnother, echo_text, echoed_text};
 
 use bytes::BytesMut;
@@ -10,7 +10,7 @@ use std::alloc::{AllocError, Global};
 /// The bytes of the reply to a probe.
 const REPLY: usize = 39;
 
-/// The proxy's own client that sends probes, if there is one.
+/// The proxy's own client that sends probes over a line, if there is one.
 #[derive(Drop)]
 pub(crate) struct Prober {
     pub(crate) who: Option<ClientId>,
@@ -26,6 +26,17 @@ impl Prober {
     {
         Prober {
             who: None,
+            expected: BytesMut::new(alloc),
+        }
+    }
+
+    /// Returns the state of this client, which has sent no probe.
+    pub(crate) fn of(alloc: Global, who: ClientId) -> Prober
+        ensures who { result.who ≡ Some who }
+        ensures nothing { result.expected.items ≡ [] }
+    {
+        Prober {
+            who: Some(who),
             expected: BytesMut::new(alloc),
         }
     }

@@ -1,10 +1,9 @@
 //! The proxy.
 
-ghost use Rattle.std.specs.Prelude.{◌≡◌, ◌↔◌, ◌⊎◌, ◌++◌, ℕ, List, None, Some, true, false, [], drop, length, slice_get, take, unwrap_or, IfOk, IfSome, IsErrOf, IsTrue, OnErr, OnOk};
-ghost use Rattle.resp_frames.specs.Framing.{HasBegun};
+ghost use Rattle.std.specs.Prelude.{◌≡◌, ◌≢◌, ◌↔◌, ◌⊎◌, ◌++◌, ℕ, List, None, Some, true, false, [], drop, length, slice_get, take, unwrap_or, IfOk, IfSome, IsErrOf, IsTrue, OnErr, OnOk};
 ghost use Rattle.resp_board.specs.Boards.{Ask, Fail};
 ghost use Rattle.resp_board.specs.Histories.{nothing_happened, with_given};
-ghost use Rattle.resp_board.specs.Runs.{HasAnsweredSome, HasClosed, HasNoIdLeft, HasOpened, HasRun, KeepsBytes, KeepsOpen, KeepsRun, Runs, WhereRun, bounds_of, clients_on, unsent_on, waiting_for, waiting_on};
+ghost use Rattle.resp_board.specs.Runs.{HasAnsweredSome, HasClosed, HasNoIdLeft, HasOpened, HasOpenedLine, HasRun, KeepsBytes, KeepsOpen, KeepsRun, Runs, WhereRun, bounds_of, clients_on, unsent_on, waiting_for, waiting_on};
 ghost use Rattle.resp_proxy.specs.Clients.{Holds, client_id, is_closing, is_leaving, route_of, waits_for_room};
 ghost use Rattle.resp_proxy.specs.Room.{HasRoom, bounds_by};
 ghost use Rattle.resp_proxy.specs.Failing.{FailsSome, Loses};
@@ -16,29 +15,30 @@ ghost use Rattle.resp_proxy.specs.Unfinished.{terms_by};
 ghost use Rattle.resp_proxy.specs.Telling.{Tells};
 ghost use Rattle.resp_proxy.specs.Visiting.{GivesSome, HasNothingFor, IsDone, SendsSome};
 ghost use Rattle.resp_io.specs.Devices.{count_after};
-ghost use Rattle.resp_value.specs.Rules.{Rules, rules_under};
+ghost use Rattle.resp_value.specs.Rules.{rules_under};
 ghost use Rattle.resp_proxy.specs.Leaving.{LeavesRightly};
-ghost use Rattle.resp_proxy.specs.Proxies.{HasBegunBy, HasNoClient, HasRoomFor, WhereBegunBy, WhereHeld, expected_of, line_of, lost_text, out_of_step_text, prober_of, admits_own, board_in, replied_to, reply_rules_of, terms_of, server_begun, settings_of, with_own_admitted, with_replied, with_terms};
+ghost use Rattle.resp_proxy.specs.Proxies.{HasNoClient, HasRoomFor, WhereHeld, lost_text, out_of_step_text, admits_own, board_in, replied_to, terms_of, settings_of, with_own_admitted, with_replied, with_terms};
+ghost use Rattle.resp_proxy.specs.ServerLines.{HasBegunBy, WhereBegunBy, expected_of, line_of, prober_of, reply_limits, reply_rules_of, route_to, server_begun};
 
 use crate::client::Client;
 use crate::counts::{Counted, Numbers, ProxyCounts};
-use crate::error::{ClientError, ServerError};
+use crate::error::{ClientError, RenewError, ServerError};
 use crate::giving::{WriteOutcome, give, has_no_bytes, has_no_command, send};
 use crate::intake::Intake;
 use crate::latency::Times;
 use crate::probing::{Prober, echo};
 use crate::replies::take_replies;
-use crate::route::Route;
+use crate::server_line::{ServerLine, forget, reply_frames};
+use crate::setting::Setting;
 use crate::settings::Settings;
 use crate::taking::{shut, take_in};
 use crate::told::note_first;
-use bytes::BytesMut;
-use resp_board::{AskError, Board, Bounds, ClientId, LineId, OpenError};
-use resp_frames::{Begun, Frames};
+use resp_board::{AskError, Board, Bounds, ClientId, OpenError};
 use resp_io::device::Sink;
 use std::alloc::{AllocError, Global};
 use std::collections::VecDeque;
 use std::marker::Model;
+use std::time::Duration;
 
 /// The reply to each command of which a byte was sent, when the connection to the server is lost.
 const LOST: &[u8] = b"-ERR connection to server lost; the command may have run\r\n";
@@ -46,51 +46,39 @@ const LOST: &[u8] = b"-ERR connection to server lost; the command may have run\r
 /// The reply to each command of which a byte was sent, when a reply to a probe is wrong.
 const OUT_OF_STEP: &[u8] = b"-ERR connection to server out of step; the command may have run\r\n";
 
-/// A proxy between many clients and one connection to a server.
+/// A proxy between many clients and the connections to a server that they share.
 #[derive(Drop)]
 pub struct Proxy {
     pub(crate) alloc: Global,
     settings: Settings,
     pub(crate) board: Board,
-    /// The line to which the commands of all clients go.
-    pub(crate) line: LineId,
     /// The commands of all clients.
-    pub(crate) intake: Intake,
-    pub(crate) counts: ProxyCounts,
-    /// Finds the replies of the server.
-    replies: Frames,
-    /// The incomplete reply of the server.
-    begun: Begun,
+    intake: Intake,
+    counts: ProxyCounts,
     /// The clients that were replied to and not yet returned by [`Proxy::next_replied`].
     replied: VecDeque<ClientId>,
-    prober: Prober,
 }
 
 impl Model for Proxy {
-    ghost use Rattle.resp_frames.specs.Framing.{frame_rules};
-    ghost use Rattle.resp_proxy.specs.Proxies.{IsSound, Proxied};
+    ghost use Rattle.resp_frames.specs.Framing.{IsReady};
+    ghost use Rattle.resp_proxy.specs.Proxies.{Proxied};
     ghost use Rattle.resp_proxy.specs.Unfinished.{terms_of as intake_terms};
 
     ghost Value = { Proxied };
 
     ghost view = { λ p. record {
       board = p.board;
-      line = p.line.place;
       settings = p.settings;
       terms = intake_terms p.intake;
-      reply_rules = frame_rules p.replies;
-      begun = p.begun;
       replied = p.replied.items;
       own = p.intake.admits_own;
-      prober = p.prober.who;
-      expected = p.prober.expected.items;
     } };
 
-    ghost invariant = { λ p. IsSound p.intake.frames p.replies };
+    ghost invariant = { λ p. IsReady p.intake.frames };
 }
 
 impl Proxy {
-    /// Returns a proxy without clients, before any byte of the server was received.
+    /// Returns a proxy without clients and without connections to a server.
     ///
     /// # Errors
     ///
@@ -99,34 +87,79 @@ impl Proxy {
         ensures run { IfOk result (λ proxy. HasRun (board_in proxy) nothing_happened) }
         ensures no_clients { IfOk result (λ proxy. HasNoClient (board_in proxy)) }
         ensures bounds { IfOk result (λ proxy. bounds_of (board_in proxy) ≡ bounds_by settings) }
-        ensures begun { IfOk result (λ proxy. HasBegunBy proxy []) }
         ensures nobody { IfOk result (λ proxy. replied_to proxy ≡ []) }
         ensures settings { IfOk result (λ proxy. settings_of proxy ≡ settings) }
-        ensures reply_rules { IfOk result (λ proxy.
-            reply_rules_of proxy ≡ rules_under settings.version settings.limits) }
         // Whether lines are commands is a setting, and no command is admitted.
         ensures terms { IfOk result (λ proxy. terms_of proxy ≡ terms_by settings) }
     {
         let intake = Intake::new(alloc, &settings)?;
-        let replies = Frames::new(alloc, settings.version, &settings.limits)?;
         let bounds = Bounds {
             waiting: settings.waiting as u64,
             unsent: usize::MAX,
         };
-        let mut board = Board::new(alloc, bounds);
-        let line = board.open_line()?;
         Ok(Proxy {
             alloc,
             settings,
-            board,
-            line,
+            board: Board::new(alloc, bounds),
             intake,
             counts: ProxyCounts::new(alloc)?,
-            replies,
-            begun: Begun::new(),
             replied: VecDeque::new(alloc),
-            prober: Prober::none(alloc),
         })
+    }
+
+    /// Opens a line for a setting: a connection to the server that the clients in this setting
+    /// share.
+    ///
+    /// # Errors
+    ///
+    /// `AllocError` if an allocation fails. Nothing changes.
+    pub fn open_line(&mut self, setting: &Setting) -> Result<ServerLine, AllocError>
+        ensures opened { IfOk result (λ line.
+            HasOpenedLine (board_in self.old) (board_in self.new) (line_of line)) }
+        ensures begun { IfOk result (λ line. HasBegunBy line []) }
+        ensures rules { IfOk result (λ line. reply_rules_of line ≡
+            rules_under setting.now.version (reply_limits (settings_of self.old) setting.now.version)) }
+        ensures nobody { IfOk result (λ line. prober_of line ≡ None) }
+        ensures run { KeepsRun (board_in self.old) (board_in self.new) }
+        ensures unchanged { OnErr result (KeepsOpen (board_in self.old) (board_in self.new)) }
+        ensures same_terms { terms_of self.new ≡ terms_of self.old }
+        ensures same_replied { replied_to self.new ≡ replied_to self.old }
+    {
+        let replies = reply_frames(self.alloc, &self.settings, setting.version)?;
+        self.counts.make_room_for_line()?;
+        let id = self.board.open_line()?;
+        self.counts.add_line(id);
+        Ok(ServerLine::new(self.alloc, id, replies, setting))
+    }
+
+    /// Uses a line for another setting, over a connection that is opened next. The clients on the line
+    /// have to be gone.
+    ///
+    /// # Errors
+    ///
+    /// `Waits` if a command waits on the line, and otherwise `OutOfMemory` if an allocation fails.
+    /// Nothing changes.
+    pub fn renew_line(&self, line: &mut ServerLine, setting: &Setting) -> Result<(), RenewError>
+        ensures begun { OnOk result (HasBegunBy line.new []) }
+        ensures rules { OnOk result (reply_rules_of line.new ≡
+            rules_under setting.now.version (reply_limits (settings_of self.now) setting.now.version)) }
+        ensures waits { IsErrOf result RenewError.Waits ↔
+            (waiting_on (board_in self.now) (line_of line.old) ≢ []) }
+        ensures unchanged { OnErr result (line.new ≡ line.old) }
+        ensures same_line { line_of line.new ≡ line_of line.old }
+        ensures same_prober { prober_of line.new ≡ prober_of line.old }
+        ensures same_expected { expected_of line.new ≡ expected_of line.old }
+    {
+        if self.board.waiting(line.id) > 0 {
+            return Err(RenewError::Waits);
+        }
+        match reply_frames(self.alloc, &self.settings, setting.version) {
+            Ok(replies) => {
+                line.renew(replies, setting);
+                Ok(())
+            }
+            Err(AllocError) => Err(RenewError::OutOfMemory),
+        }
     }
 
     /// Admits a command of this name, in upper, lower or mixed case, if the table of commands does
@@ -145,15 +178,17 @@ impl Proxy {
         self.intake.admit(self.alloc, name)
     }
 
-    /// Opens a client. No client had its id before.
+    /// Opens a client whose commands go to this line. No client had its id before.
     ///
     /// # Errors
     ///
     /// `TooMany` if 2^63 - 1 clients were opened, and otherwise `OutOfMemory` if an allocation
     /// fails. Nothing changes.
-    pub fn open(&mut self) -> Result<Client, OpenError>
+    pub fn open(&mut self, line: &ServerLine) -> Result<Client, OpenError>
         ensures opened { IfOk result (λ client.
             HasOpened (board_in self.old) (board_in self.new) (client_id client)) }
+        ensures route { IfOk result (λ client.
+            route_of client ≡ route_to line.now (client_id client)) }
         ensures nothing { IfOk result (λ client. Holds (terms_of self.new) client []) }
         ensures is_open { IfOk result (λ client. is_closing client ≡ false) }
         ensures stays { IfOk result (λ client. is_leaving client ≡ false) }
@@ -164,97 +199,97 @@ impl Proxy {
         ensures same_replied { replied_to self.new ≡ replied_to self.old }
     {
         match self.board.open() {
-            Ok(client) => Ok(Client::new(
-                self.alloc,
-                Route {
-                    client,
-                    line: self.line,
-                },
-            )),
+            Ok(client) => Ok(Client::new(self.alloc, line.route(client))),
             Err(error) => Err(error),
         }
     }
 
-    /// Opens the proxy's own client that sends probes. Call it once.
+    /// Opens the proxy's own client that sends probes over a line. Call it once for each line.
     ///
     /// # Errors
     ///
     /// Those of [`Proxy::open`]. Nothing changes.
-    pub fn open_prober(&mut self) -> Result<(), OpenError>
-        ensures opened { OnOk result ((who : ClientId) × (prober_of self.new ≡ Some who) ×
+    pub fn open_prober(&mut self, line: &mut ServerLine) -> Result<ClientId, OpenError>
+        ensures opened { IfOk result (λ who. (prober_of line.new ≡ Some who) ×
             HasOpened (board_in self.old) (board_in self.new) who) }
-        ensures expected { OnOk result (expected_of self.new ≡ []) }
+        ensures expected { OnOk result (expected_of line.new ≡ []) }
         ensures run { KeepsRun (board_in self.old) (board_in self.new) }
+        ensures unchanged { OnErr result (line.new ≡ line.old) }
+        ensures same_line { line_of line.new ≡ line_of line.old }
+        ensures same_rules { reply_rules_of line.new ≡ reply_rules_of line.old }
+        ensures same_begun { server_begun line.new ≡ server_begun line.old }
         ensures same_terms { terms_of self.new ≡ terms_of self.old }
+        ensures same_replied { replied_to self.new ≡ replied_to self.old }
     {
         match self.board.open() {
             Ok(who) => {
-                self.prober = Prober::none(self.alloc);
-                self.prober.who = Some(who);
+                line.prober = Prober::of(self.alloc, who);
                 self.counts.hide_client();
-                Ok(())
+                Ok(who)
             }
             Err(error) => Err(error),
         }
     }
 
-    /// Returns whether this is the proxy's own client that sends probes.
-    pub fn is_prober(&self, who: ClientId) -> bool {
-        self.prober.who == Some(who)
-    }
-
-    /// Queues ECHO with this word for the server, as the proxy's own command, after the commands
-    /// that were queued before. Its reply has to be this word: [`Proxy::from_server`] fails at any
+    /// Queues ECHO with this word on a line, as the proxy's own command, after the commands that were
+    /// queued before. Its reply has to be this word: [`Proxy::from_server`] fails at any
     /// other reply.
     ///
     /// # Errors
     ///
     /// `NoClient` without [`Proxy::open_prober`], `ClientFull` if [`Settings::waiting`] probes wait, and
     /// `OutOfMemory` if an allocation fails. Nothing changes.
-    pub fn probe(&mut self, word: &[u8; 32]) -> Result<(), AskError>
+    pub fn probe(&mut self, line: &mut ServerLine, word: &[u8; 32]) -> Result<(), AskError>
         // The command is one of this client, and its reply is expected behind the others.
-        ensures probed { OnOk result (IfSome (prober_of self.old) (λ who.
-            Runs (Ask who (line_of self.old) (echo_text word.now)) (board_in self.old)
+        ensures probed { OnOk result (IfSome (prober_of line.old) (λ who.
+            Runs (Ask who (line_of line.old) (echo_text word.now)) (board_in self.old)
             (board_in self.new))) }
         ensures expected { OnOk result
-            (expected_of self.new ≡ expected_of self.old ++ echoed_text word.now) }
+            (expected_of line.new ≡ expected_of line.old ++ echoed_text word.now) }
         ensures unchanged { OnErr result (KeepsRun (board_in self.old) (board_in self.new)) }
-        ensures same_prober { prober_of self.new ≡ prober_of self.old }
+        ensures same_expected { OnErr result (expected_of line.new ≡ expected_of line.old) }
+        ensures same_prober { prober_of line.new ≡ prober_of line.old }
+        ensures same_line { line_of line.new ≡ line_of line.old }
+        ensures same_rules { reply_rules_of line.new ≡ reply_rules_of line.old }
+        ensures same_begun { server_begun line.new ≡ server_begun line.old }
         ensures same_clients { KeepsOpen (board_in self.old) (board_in self.new) }
         ensures same_terms { terms_of self.new ≡ terms_of self.old }
     {
-        let Some(who) = self.prober.who else {
+        let Some(who) = line.prober.who else {
             return Err(AskError::NoClient);
         };
         let Ok(text) = echo(self.alloc, word) else {
             return Err(AskError::OutOfMemory);
         };
-        let before = self.prober.expected.len();
-        if self.prober.expect(self.alloc, word).is_err() {
+        let before = line.prober.expected.len();
+        if line.prober.expect(self.alloc, word).is_err() {
             return Err(AskError::OutOfMemory);
         }
-        match self.board.ask(who, self.line, &text) {
+        match self.board.ask(who, line.id, &text) {
             Ok(()) => Ok(()),
             Err(error) => {
-                self.prober.expected.truncate(before);
+                line.prober.expected.truncate(before);
                 Err(error)
             }
         }
     }
 
-    /// Removes the replies to probes that have arrived, and forgets the probes whose replies were
-    /// lost with the connection. Call it after each visit of the server, and after [`Proxy::lose`],
-    /// [`Proxy::lose_out_of_step`] and [`Proxy::fail`].
-    pub fn settle_probes(&mut self)
-        ensures given { IfSome (prober_of self.old) (λ who. WhereRun (board_in self.old) (λ h.
+    /// Removes the replies to probes that have arrived over a line, and forgets the probes whose
+    /// replies were lost with the connection. Call it after each visit of the server, and after
+    /// [`Proxy::lose`], [`Proxy::lose_out_of_step`] and [`Proxy::fail`].
+    pub fn settle_probes(&mut self, line: &mut ServerLine)
+        ensures given { IfSome (prober_of line.old) (λ who. WhereRun (board_in self.old) (λ h.
             IfSome (waiting_for (board_in self.old) who) (λ text.
             HasRun (board_in self.new) (with_given who text h)))) }
-        ensures expected { (gone : List ℕ) × (expected_of self.old ≡ gone ++ expected_of self.new) }
-        ensures same_prober { prober_of self.new ≡ prober_of self.old }
+        ensures expected { (gone : List ℕ) × (expected_of line.old ≡ gone ++ expected_of line.new) }
+        ensures same_prober { prober_of line.new ≡ prober_of line.old }
+        ensures same_line { line_of line.new ≡ line_of line.old }
+        ensures same_rules { reply_rules_of line.new ≡ reply_rules_of line.old }
+        ensures same_begun { server_begun line.new ≡ server_begun line.old }
         ensures same_clients { KeepsOpen (board_in self.old) (board_in self.new) }
         ensures same_terms { terms_of self.new ≡ terms_of self.old }
     {
-        let Some(who) = self.prober.who else {
+        let Some(who) = line.prober.who else {
             return;
         };
         let Some(text) = self.board.to_client(who) else {
@@ -263,7 +298,7 @@ impl Proxy {
         let count = text.len();
         self.board.given(who, count);
         let waiting = self.board.waiting_of(who).unwrap_or(0);
-        self.prober.keep(waiting);
+        line.prober.keep(waiting);
     }
 
     /// Closes a client. No client gets the missing replies. Its commands still go to the server.
@@ -330,11 +365,11 @@ impl Proxy {
         )
     }
 
-    /// Returns the number of bytes that wait for the server.
-    pub fn unsent(&self) -> usize
-        ensures { result ≡ length (unsent_on (board_in self.now) (line_of self.now)) }
+    /// Returns the number of bytes that wait to be sent over a line.
+    pub fn unsent(&self, line: &ServerLine) -> usize
+        ensures { result ≡ length (unsent_on (board_in self.now) (line_of line.now)) }
     {
-        self.board.to_server(self.line).len()
+        self.board.to_server(line.id).len()
     }
 
     /// Returns the number of bytes that wait to be written to this client, or 0 if it is not open.
@@ -348,18 +383,18 @@ impl Proxy {
         }
     }
 
-    /// Returns the number of commands that wait for replies.
-    pub fn waiting(&self) -> usize
-        ensures { result ≡ length (waiting_on (board_in self.now) (line_of self.now)) }
+    /// Returns the number of commands that wait on a line for replies.
+    pub fn waiting(&self, line: &ServerLine) -> usize
+        ensures { result ≡ length (waiting_on (board_in self.now) (line_of line.now)) }
     {
-        self.board.waiting(self.line)
+        self.board.waiting(line.id)
     }
 
-    /// Returns the client of the first command that waits for a reply.
-    pub fn next_client(&self) -> Option<ClientId>
-        ensures { result ≡ slice_get (clients_on (board_in self.now) (line_of self.now)) 0 }
+    /// Returns the client of the first command that waits on a line for a reply.
+    pub fn next_client(&self, line: &ServerLine) -> Option<ClientId>
+        ensures { result ≡ slice_get (clients_on (board_in self.now) (line_of line.now)) 0 }
     {
-        self.board.next_client(self.line)
+        self.board.next_client(line.id)
     }
 
     /// Returns whether a client is closing, no command of it waits, and all its replies were
@@ -387,55 +422,45 @@ impl Proxy {
         self.counts.add(counted);
     }
 
+    /// Counts commands of clients that were queued at this time on a line.
+    pub fn count_queued(&mut self, line: &mut ServerLine, count: usize, now: Duration)
+        ensures same_state { self.new ≡ self.old }
+        ensures same_line { line.new ≡ line.old }
+    {
+        self.counts.add_queued(&mut line.waits, count, now);
+    }
+
+    /// Counts commands that got their replies over a line at this time.
+    pub fn count_replied(&mut self, line: &mut ServerLine, count: usize, now: Duration)
+        ensures same_state { self.new ≡ self.old }
+        ensures same_line { line.new ≡ line.old }
+    {
+        self.counts.add_replied(&mut line.waits, count, now);
+    }
+
+    /// Counts commands on a line whose reply was the error for a lost or missing connection.
+    pub fn count_failed(&mut self, line: &mut ServerLine, count: usize)
+        ensures same_state { self.new ≡ self.old }
+        ensures same_line { line.new ≡ line.old }
+    {
+        self.counts.add_failed(&mut line.waits, count);
+    }
+
+    /// Sets the number of lines that no client uses. `INFO proxy` does not count them.
+    pub fn set_idle_lines(&mut self, idle: usize)
+        ensures same_state { self.new ≡ self.old }
+    {
+        self.counts.set_idle_lines(idle);
+    }
+
     /// Returns what was counted.
     pub fn numbers(&self) -> Numbers {
-        self.counts.numbers(&self.board, self.line)
+        self.counts.numbers(&self.board)
     }
 
-    /// Returns what was counted here and in the other proxies of the program.
-    pub fn all_numbers(&self) -> Numbers {
-        self.counts.all(&self.board, self.line)
-    }
-
-    /// Sets the numbers of the other proxies of the program, which `INFO proxy` adds, and the times that it
-    /// prints if those of this proxy are counted elsewhere.
-    pub fn set_others(&mut self, others: Numbers, times: Option<Times>)
-        ensures same_state { self.new ≡ self.old }
-    {
-        self.counts.set_others(others, times);
-    }
-
-    /// Moves the times of the replies of another proxy to this one.
-    pub fn take_times(&mut self, other: &mut Proxy)
-        ensures same_state { self.new ≡ self.old }
-        ensures other_state { other.new ≡ other.old }
-    {
-        self.counts.take_times(&mut other.counts);
-    }
-
-    /// Moves the counts of commands by name and of error replies from another proxy to this one.
-    pub fn take_counts(&mut self, other: &mut Proxy)
-        ensures same_state { self.new ≡ self.old }
-        ensures other_state { other.new ≡ other.old }
-    {
-        self.counts.take(&mut other.counts);
-    }
-
-    /// Returns the lines of `INFO proxy` about commands by name and about error replies.
-    ///
-    /// # Errors
-    ///
-    /// `AllocError` if an allocation fails.
-    pub fn count_lines(&self) -> Result<String, AllocError> {
-        self.counts.lines(self.alloc)
-    }
-
-    /// Sets the lines about commands by name and error replies that `INFO proxy` prints, if those of this
-    /// proxy are counted elsewhere.
-    pub fn set_count_lines(&mut self, lines: String)
-        ensures same_state { self.new ≡ self.old }
-    {
-        self.counts.count_lines = Some(lines);
+    /// Returns the number of clients that have a connection of their own.
+    pub fn own_clients(&self) -> u64 {
+        self.counts.own()
     }
 
     /// Returns the counted times of the replies of the last one to two minutes.
@@ -454,70 +479,75 @@ impl Proxy {
         shut(self.alloc, client);
     }
 
-    /// Takes bytes that the server sent. Each whole reply goes to the client of its command.
+    /// Takes bytes that the server sent over a line. Each whole reply goes to the client of its command.
     ///
     /// # Errors
     ///
     /// A [`ServerError`] if the bytes after the replies that were given are its cause, or if an allocation
     /// fails. Close the connection, and call [`Proxy::lose`].
-    pub fn from_server(&mut self, piece: &[u8]) -> Result<(), ServerError>
-        ensures taken { WhereBegunBy self.old (λ front. WhereRun (board_in self.old) (λ h.
-            TakesReplies (reply_rules_of self.old) (line_of self.old) (front ++ piece.now)
-            (server_begun self.new) result h (board_in self.new))) }
+    pub fn from_server(&mut self, line: &mut ServerLine, piece: &[u8]) -> Result<(), ServerError>
+        ensures taken { WhereBegunBy line.old (λ front. WhereRun (board_in self.old) (λ h.
+            TakesReplies (reply_rules_of line.old) (line_of line.old) (front ++ piece.now)
+            (server_begun line.new) result h (board_in self.new))) }
         // The replies to probes are the expected ones. At the first that is not, nothing more is given.
-        ensures step { WhereBegunBy self.old (λ front. WhereRun (board_in self.old) (λ h.
-            KeepsStep (line_of self.old) (prober_of self.old) (expected_of self.old) result
+        ensures step { WhereBegunBy line.old (λ front. WhereRun (board_in self.old) (λ h.
+            KeepsStep (line_of line.old) (prober_of line.old) (expected_of line.old) result
             (board_in self.old) h (board_in self.new))) }
         // Each client whose bytes are other than before is returned by `next_replied`.
-        ensures told { Tells (line_of self.old) (replied_to self.old) (replied_to self.new)
+        ensures told { Tells (line_of line.old) (replied_to self.old) (replied_to self.new)
             (board_in self.old) (board_in self.new) }
-        ensures same_prober { prober_of self.new ≡ prober_of self.old }
-        ensures same_expected { expected_of self.new ≡ expected_of self.old }
+        ensures same_prober { prober_of line.new ≡ prober_of line.old }
+        ensures same_expected { expected_of line.new ≡ expected_of line.old }
         ensures same_clients { KeepsOpen (board_in self.old) (board_in self.new) }
         ensures same_terms { terms_of self.new ≡ terms_of self.old }
-        ensures same_reply_rules { reply_rules_of self.new ≡ reply_rules_of self.old }
-        ensures same_line { line_of self.new ≡ line_of self.old }
-        ensures forgotten { OnErr result (HasBegunBy self.new []) }
+        ensures same_rules { reply_rules_of line.new ≡ reply_rules_of line.old }
+        ensures same_line { line_of line.new ≡ line_of line.old }
+        ensures forgotten { OnErr result (HasBegunBy line.new []) }
     {
         let taken = take_replies(
-            &mut self.replies,
-            &mut self.begun,
+            &mut line.replies,
+            &mut line.begun,
             &mut self.board,
-            self.line,
+            line.id,
             &mut self.replied,
-            &self.prober,
+            &line.prober,
             &mut self.counts.errors,
             piece,
         );
         match taken {
-            Ok(()) => Ok(()),
+            Ok(()) => {}
             Err(error) => {
-                forget(&mut self.begun);
-                Err(error)
+                forget(&mut line.begun);
+                return Err(error);
             }
         }
+        Ok(())
     }
 
-    /// Replies with an error to each waiting command of which a byte was sent, because the
-    /// connection to the server was lost, and forgets the incomplete reply of the server. The other
-    /// commands wait for a new connection.
+    /// Replies with an error to each command on a line of which a byte was sent, because the connection
+    /// to the server was lost, and forgets the incomplete reply of the server. The other commands of
+    /// the line wait for a new connection.
     ///
     /// # Errors
     ///
     /// `AllocError` if an allocation fails. The first of these commands may have their replies, and the
     /// others still wait. Close the client of the first command, and try again.
-    pub fn lose(&mut self) -> Result<(), AllocError>
-        ensures run { OnOk result (Loses (line_of self.old) lost_text (board_in self.old)
+    pub fn lose(&mut self, line: &mut ServerLine) -> Result<(), AllocError>
+        ensures run { OnOk result (Loses (line_of line.old) lost_text (board_in self.old)
             (board_in self.new)) }
-        ensures some_answered { OnErr result (HasAnsweredSome (line_of self.old) lost_text
+        ensures some_answered { OnErr result (HasAnsweredSome (line_of line.old) lost_text
             (board_in self.old) (board_in self.new)) }
-        ensures told { Tells (line_of self.old) (replied_to self.old) (replied_to self.new)
+        ensures told { Tells (line_of line.old) (replied_to self.old) (replied_to self.new)
             (board_in self.old) (board_in self.new) }
-        ensures begun { HasBegunBy self.new [] }
+        ensures begun { HasBegunBy line.new [] }
+        ensures same_prober { prober_of line.new ≡ prober_of line.old }
+        ensures same_expected { expected_of line.new ≡ expected_of line.old }
+        ensures same_rules { reply_rules_of line.new ≡ reply_rules_of line.old }
+        ensures same_line { line_of line.new ≡ line_of line.old }
         ensures same_clients { KeepsOpen (board_in self.old) (board_in self.new) }
         ensures same_terms { terms_of self.new ≡ terms_of self.old }
     {
-        self.lose_by(LOST)
+        self.lose_by(line, LOST)
     }
 
     /// Like [`Proxy::lose`], after [`ServerError::OutOfStep`]: the error reply says that the
@@ -526,60 +556,72 @@ impl Proxy {
     /// # Errors
     ///
     /// Those of [`Proxy::lose`].
-    pub fn lose_out_of_step(&mut self) -> Result<(), AllocError>
-        ensures run { OnOk result (Loses (line_of self.old) out_of_step_text (board_in self.old)
+    pub fn lose_out_of_step(&mut self, line: &mut ServerLine) -> Result<(), AllocError>
+        ensures run { OnOk result (Loses (line_of line.old) out_of_step_text (board_in self.old)
             (board_in self.new)) }
-        ensures some_answered { OnErr result (HasAnsweredSome (line_of self.old) out_of_step_text
+        ensures some_answered { OnErr result (HasAnsweredSome (line_of line.old) out_of_step_text
             (board_in self.old) (board_in self.new)) }
-        ensures told { Tells (line_of self.old) (replied_to self.old) (replied_to self.new)
+        ensures told { Tells (line_of line.old) (replied_to self.old) (replied_to self.new)
             (board_in self.old) (board_in self.new) }
-        ensures begun { HasBegunBy self.new [] }
+        ensures begun { HasBegunBy line.new [] }
+        ensures same_prober { prober_of line.new ≡ prober_of line.old }
+        ensures same_expected { expected_of line.new ≡ expected_of line.old }
+        ensures same_rules { reply_rules_of line.new ≡ reply_rules_of line.old }
+        ensures same_line { line_of line.new ≡ line_of line.old }
         ensures same_clients { KeepsOpen (board_in self.old) (board_in self.new) }
         ensures same_terms { terms_of self.new ≡ terms_of self.old }
     {
-        self.lose_by(OUT_OF_STEP)
+        self.lose_by(line, OUT_OF_STEP)
     }
 
     /// Like `lose`, with this text as the reply.
-    fn lose_by(&mut self, text: &[u8]) -> Result<(), AllocError>
-        ensures run { OnOk result (Loses (line_of self.old) text.now (board_in self.old)
+    fn lose_by(&mut self, line: &mut ServerLine, text: &[u8]) -> Result<(), AllocError>
+        ensures run { OnOk result (Loses (line_of line.old) text.now (board_in self.old)
             (board_in self.new)) }
-        ensures some_answered { OnErr result (HasAnsweredSome (line_of self.old) text.now
+        ensures some_answered { OnErr result (HasAnsweredSome (line_of line.old) text.now
             (board_in self.old) (board_in self.new)) }
-        ensures told { Tells (line_of self.old) (replied_to self.old) (replied_to self.new)
+        ensures told { Tells (line_of line.old) (replied_to self.old) (replied_to self.new)
             (board_in self.old) (board_in self.new) }
-        ensures begun { HasBegunBy self.new [] }
+        ensures begun { HasBegunBy line.new [] }
+        ensures same_prober { prober_of line.new ≡ prober_of line.old }
+        ensures same_expected { expected_of line.new ≡ expected_of line.old }
+        ensures same_rules { reply_rules_of line.new ≡ reply_rules_of line.old }
+        ensures same_line { line_of line.new ≡ line_of line.old }
         ensures same_clients { KeepsOpen (board_in self.old) (board_in self.new) }
         ensures same_terms { terms_of self.new ≡ terms_of self.old }
     {
-        forget(&mut self.begun);
-        let begun = self.board.begun(self.line);
-        note_first(&mut self.replied, &self.board, self.line, begun)?;
-        self.board.lose(self.line, text)
+        forget(&mut line.begun);
+        let begun = self.board.begun(line.id);
+        note_first(&mut self.replied, &self.board, line.id, begun)?;
+        self.board.lose(line.id, text)
     }
 
-    /// Replies with this text to each command that waits, because no connection to the server can
-    /// be opened. No byte of them is sent. A new connection begins.
+    /// Replies with this text to each command that waits on a line, because no connection to the
+    /// server can be opened. No byte of them is sent. A new connection begins.
     ///
     /// # Errors
     ///
     /// `AllocError` if an allocation fails. The first of these commands may have their replies, and the
     /// others still wait. Close the client of the first command, and try again.
-    pub fn fail(&mut self, text: &[u8]) -> Result<(), AllocError>
-        ensures run { OnOk result (Runs (Fail (line_of self.old) text.now) (board_in self.old)
+    pub fn fail(&mut self, line: &mut ServerLine, text: &[u8]) -> Result<(), AllocError>
+        ensures run { OnOk result (Runs (Fail (line_of line.old) text.now) (board_in self.old)
             (board_in self.new)) }
-        ensures some_answered { OnErr result (FailsSome (line_of self.old) text.now
+        ensures some_answered { OnErr result (FailsSome (line_of line.old) text.now
             (board_in self.old) (board_in self.new)) }
-        ensures told { Tells (line_of self.old) (replied_to self.old) (replied_to self.new)
+        ensures told { Tells (line_of line.old) (replied_to self.old) (replied_to self.new)
             (board_in self.old) (board_in self.new) }
-        ensures begun { HasBegunBy self.new [] }
+        ensures begun { HasBegunBy line.new [] }
+        ensures same_prober { prober_of line.new ≡ prober_of line.old }
+        ensures same_expected { expected_of line.new ≡ expected_of line.old }
+        ensures same_rules { reply_rules_of line.new ≡ reply_rules_of line.old }
+        ensures same_line { line_of line.new ≡ line_of line.old }
         ensures same_clients { KeepsOpen (board_in self.old) (board_in self.new) }
         ensures same_terms { terms_of self.new ≡ terms_of self.old }
     {
-        forget(&mut self.begun);
-        let all = self.board.waiting(self.line);
-        note_first(&mut self.replied, &self.board, self.line, all)?;
-        self.board.fail(self.line, text)
+        forget(&mut line.begun);
+        let all = self.board.waiting(line.id);
+        note_first(&mut self.replied, &self.board, line.id, all)?;
+        self.board.fail(line.id, text)
     }
 
     /// Returns the next client that was replied to by [`Proxy::from_server`],
@@ -609,27 +651,19 @@ impl Proxy {
         give(&mut self.board, client.route.client, writer)
     }
 
-    /// Writes bytes that wait for the server, with at most one write.
-    pub fn send<W: Sink>(&mut self, writer: &mut W) -> WriteOutcome
-        ensures sends { SendsSome (line_of self.old) (W.written writer.old)
+    /// Writes bytes that wait to be sent over a line, with at most one write.
+    pub fn send<W: Sink>(&mut self, line: &ServerLine, writer: &mut W) -> WriteOutcome
+        ensures sends { SendsSome (line_of line.now) (W.written writer.old)
             (W.written writer.new) (board_in self.old) (board_in self.new) }
         ensures same_bytes { KeepsBytes (board_in self.old) (board_in self.new) }
         ensures all { result ≡ WriteOutcome.All →
-            unsent_on (board_in self.new) (line_of self.new) ≡ [] }
-        ensures once { (unsent_on (board_in self.old) (line_of self.old) ≡ []) ⊎
+            unsent_on (board_in self.new) (line_of line.now) ≡ [] }
+        ensures once { (unsent_on (board_in self.old) (line_of line.now) ≡ []) ⊎
             (W.calls writer.new ≡ count_after 1 (W.calls writer.old)) }
         ensures same_clients { KeepsOpen (board_in self.old) (board_in self.new) }
         ensures same_terms { terms_of self.new ≡ terms_of self.old }
         ensures same_replied { replied_to self.new ≡ replied_to self.old }
-        ensures same_begun { server_begun self.new ≡ server_begun self.old }
     {
-        send(&mut self.board, self.line, writer)
+        send(&mut self.board, line.id, writer)
     }
-}
-
-/// Forgets the bytes of the incomplete value.
-fn forget(begun: &mut Begun)
-    ensures { (rules : Rules) → HasBegun rules begun.new [] }
-{
-    *begun = Begun::new();
 }

@@ -53,16 +53,13 @@ pub(crate) fn take_replies(
         if make_room(queued).is_err() {
             return Err(ServerError::OutOfMemory);
         }
-        let is_begun = !begun.is_empty();
-        let found = match take_reply(frames, begun, board, line, &piece[used..]) {
+        let found = match take_reply(frames, begun, board, line, errors, &piece[used..]) {
             Ok(found) => found,
             Err(error) => return Err(error),
         };
         let Some(reply) = found else {
-            errors.hold(is_begun, &piece[used..]);
             return Ok(());
         };
-        errors.end(is_begun, &piece[used..]);
         note(queued, reply.client);
         if !prober.stays_in_step(board, reply.client) {
             return Err(ServerError::OutOfStep);
@@ -85,9 +82,9 @@ pub(crate) struct Replied {
     pub(crate) client: ClientId,
 }
 
-/// Takes bytes that the server sent, up to the end of a value, and gives this value to the client of
-/// the first command that waits. Returns the number of bytes and the client, or `None` if no value
-/// ends in the piece. Then all bytes of the piece are held.
+/// Takes bytes that the server sent, up to the end of a value, gives this value to the client of the
+/// first command that waits, and counts it if it is an error. Returns the number of bytes and the
+/// client, or `None` if no value ends in the piece. Then all bytes of the piece are held.
 ///
 /// # Errors
 ///
@@ -98,6 +95,7 @@ pub(crate) fn take_reply(
     begun: &mut Begun,
     board: &mut Board,
     line: LineId,
+    errors: &mut ErrorCounts,
     piece: &[u8],
 ) -> Result<Option<Replied>, ServerError>
     // The bytes that came since the last reply are a spelling, and the client gets these bytes.
@@ -143,6 +141,7 @@ pub(crate) fn take_reply(
         Ok(replied) => replied,
         Err(error) => return Err(error),
     };
+    errors.note(frame.text());
     Ok(Some(replied))
 }
 

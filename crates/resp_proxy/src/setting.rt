@@ -133,6 +133,15 @@ impl Setting {
             && name_of(&self.login) == name_of(&other.login)
     }
 
+    /// Returns whether this is the setting in which every client begins.
+    pub fn is_first(&self) -> bool
+        ensures { IsTrue result ↔ MeansSame (situation_of self.now) first_situation }
+    {
+        self.version == Version::Two
+            && self.database.as_slice() == b"0".as_slice()
+            && self.login.is_none()
+    }
+
     /// Appends the commands that a new connection to the server begins with, and returns their
     /// number. `own` is the command AUTH of the proxy's own user, or empty.
     ///

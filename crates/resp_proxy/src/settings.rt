@@ -6,7 +6,6 @@ ghost use Rattle.resp_proxy.specs.Room.{HasRoom};
 use crate::route::Route;
 use resp_board::Board;
 use resp_value::limits::Limits;
-use resp_value::version::Version;
 
 /// The limits of a proxy.
 #[derive(Clone, Copy, Debug, PartialEq, Eq)]
@@ -23,25 +22,18 @@ pub struct Settings {
     pub lines: bool,
     /// Whether the proxy itself replies to PING.
     pub local_ping: bool,
-    /// The version of the replies of the server.
-    pub version: Version,
-    /// Whether the proxy itself replies to HELLO and SELECT if they leave a client in version 2 and
-    /// in database 0. It is for clients in this version and database.
-    pub answers_settings: bool,
 }
 
 impl Settings {
     /// Returns the default settings: the standard limits, 1,024 commands of a client, 1 MiB of
-    /// replies for a client, and 1 MiB of commands for the server. Lines are commands, PING is sent
-    /// to the server, and clients are in version 2 and in database 0.
+    /// replies for a client, and 1 MiB of commands for the server. Lines are commands, and PING is
+    /// sent to the server.
     pub fn standard() -> Settings
         ensures waiting { result.waiting ≡ 1024 }
         ensures held { result.held ≡ 1048576 }
         ensures unsent { result.unsent ≡ 1048576 }
         ensures lines { result.lines ≡ true }
         ensures no_ping { result.local_ping ≡ false }
-        ensures answers_settings { result.answers_settings ≡ true }
-        ensures version { result.version ≡ Version.Two }
     {
         Settings {
             limits: Limits::standard(),
@@ -50,8 +42,6 @@ impl Settings {
             unsent: 1_048_576,
             lines: true,
             local_ping: false,
-            version: Version::Two,
-            answers_settings: true,
         }
     }
 

@@ -4,7 +4,8 @@ ghost use Rattle.std.specs.Prelude.{◌≡◌, ◌↔◌, ◌<◌, [], false, le
 ghost use Rattle.resp_board.specs.Runs.{KeepsOpen, KeepsOthers, WhereRun, unsent_on};
 ghost use Rattle.resp_proxy.specs.Clients.{client_id, is_closing, route_of};
 ghost use Rattle.resp_proxy.specs.Leaving.{LeavesRightly};
-ghost use Rattle.resp_proxy.specs.Proxies.{HasRoomFor, WhereBegunBy, WhereHeld, board_in, expected_of, line_of, prober_of, replied_to, terms_of, reply_rules_of, server_begun};
+ghost use Rattle.resp_proxy.specs.Proxies.{HasRoomFor, WhereHeld, board_in, replied_to, terms_of};
+ghost use Rattle.resp_proxy.specs.ServerLines.{WhereBegunBy, expected_of, line_of, prober_of, reply_rules_of, server_begun};
 ghost use Rattle.resp_proxy.specs.Probing.{KeepsStep};
 ghost use Rattle.resp_proxy.specs.Telling.{Tells};
 ghost use Rattle.resp_proxy.specs.Visiting.{HasNothingFor, ReadsClient, ReadsServer, TriesRead, VisitsClient, VisitsServer};
@@ -14,6 +15,7 @@ use crate::client::Client;
 use crate::error::{ClientError, ServerError};
 use crate::giving::WriteOutcome;
 use crate::proxy::Proxy;
+use crate::server_line::ServerLine;
 use resp_io::device::{DeviceFault, Sink, Source};
 
 /// The result of the read of a client.
@@ -147,37 +149,42 @@ impl Proxy {
         }
     }
 
-    /// Reads bytes of the server, and writes bytes that wait for it, with at most one read and one
-    /// write.
+    /// Reads bytes of the server over a line, and writes bytes that wait for it, with at most one read
+    /// and one write.
     pub fn visit_server<R: Source, W: Sink>(
         &mut self,
+        line: &mut ServerLine,
         reader: &mut R,
         writer: &mut W,
         buffer: &mut [u8],
     ) -> ServerVisit
         requires { 0 < length buffer.old }
         // The bytes read came from the server, and the bytes written waited for it.
-        ensures visited { WhereBegunBy self.old (λ front. VisitsServer (reply_rules_of self.old)
-            (line_of self.old) (R.remaining reader.old) (R.remaining reader.new) (W.written writer.old)
-            (W.written writer.new) front (server_begun self.new) result.read result.end
+        ensures visited { WhereBegunBy line.old (λ front. VisitsServer (reply_rules_of line.old)
+            (line_of line.old) (R.remaining reader.old) (R.remaining reader.new) (W.written writer.old)
+            (W.written writer.new) front (server_begun line.new) result.read result.end
             (board_in self.old) (board_in self.new)) }
         // The replies to probes are the expected ones. At the first that is not, nothing more is given.
-        ensures step { IfSome result.read (λ count. WhereBegunBy self.old (λ front.
-            WhereRun (board_in self.old) (λ h. KeepsStep (line_of self.old)
-            (prober_of self.old) (expected_of self.old) result.end (board_in self.old) h
+        ensures step { IfSome result.read (λ count. WhereBegunBy line.old (λ front.
+            WhereRun (board_in self.old) (λ h. KeepsStep (line_of line.old)
+            (prober_of line.old) (expected_of line.old) result.end (board_in self.old) h
             (board_in self.new)))) }
         // Each client whose bytes are other than before is returned by `next_replied`.
-        ensures told { Tells (line_of self.old) (replied_to self.old) (replied_to self.new)
+        ensures told { Tells (line_of line.old) (replied_to self.old) (replied_to self.new)
             (board_in self.old) (board_in self.new) }
         ensures once { R.calls reader.new ≡ count_after 1 (R.calls reader.old) }
         ensures all { result.written ≡ WriteOutcome.All →
-            unsent_on (board_in self.new) (line_of self.new) ≡ [] }
+            unsent_on (board_in self.new) (line_of line.new) ≡ [] }
+        ensures same_prober { prober_of line.new ≡ prober_of line.old }
+        ensures same_expected { expected_of line.new ≡ expected_of line.old }
+        ensures same_rules { reply_rules_of line.new ≡ reply_rules_of line.old }
+        ensures same_line { line_of line.new ≡ line_of line.old }
         ensures same_clients { KeepsOpen (board_in self.old) (board_in self.new) }
         ensures same_terms { terms_of self.new ≡ terms_of self.old }
     {
-        let (read, end) = self.read_server(reader, buffer);
+        let (read, end) = self.read_server(line, reader, buffer);
         let written = if end.is_ok() {
-            self.send(writer)
+            self.send(line, writer)
         } else {
             WriteOutcome::Some
         };
@@ -187,27 +194,31 @@ impl Proxy {
     /// Reads bytes of the server.
     fn read_server<R: Source>(
         &mut self,
+        line: &mut ServerLine,
         reader: &mut R,
         buffer: &mut [u8],
     ) -> (Option<usize>, Result<(), ServerError>)
         requires { 0 < length buffer.old }
-        ensures reads { WhereBegunBy self.old (λ front. ReadsServer (reply_rules_of self.old)
-            (line_of self.old) (R.remaining reader.old) (R.remaining reader.new) front (server_begun self.new)
+        ensures reads { WhereBegunBy line.old (λ front. ReadsServer (reply_rules_of line.old)
+            (line_of line.old) (R.remaining reader.old) (R.remaining reader.new) front (server_begun line.new)
             result.0 result.1
             (board_in self.old) (board_in self.new)) }
-        ensures step { IfSome result.0 (λ count. WhereBegunBy self.old (λ front.
-            WhereRun (board_in self.old) (λ h. KeepsStep (line_of self.old)
-            (prober_of self.old) (expected_of self.old) result.1 (board_in self.old) h
+        ensures step { IfSome result.0 (λ count. WhereBegunBy line.old (λ front.
+            WhereRun (board_in self.old) (λ h. KeepsStep (line_of line.old)
+            (prober_of line.old) (expected_of line.old) result.1 (board_in self.old) h
             (board_in self.new)))) }
-        ensures told { Tells (line_of self.old) (replied_to self.old) (replied_to self.new)
+        ensures told { Tells (line_of line.old) (replied_to self.old) (replied_to self.new)
             (board_in self.old) (board_in self.new) }
         ensures once { R.calls reader.new ≡ count_after 1 (R.calls reader.old) }
+        ensures same_prober { prober_of line.new ≡ prober_of line.old }
+        ensures same_expected { expected_of line.new ≡ expected_of line.old }
+        ensures same_rules { reply_rules_of line.new ≡ reply_rules_of line.old }
+        ensures same_line { line_of line.new ≡ line_of line.old }
         ensures same_clients { KeepsOpen (board_in self.old) (board_in self.new) }
         ensures same_terms { terms_of self.new ≡ terms_of self.old }
-        ensures same_line { line_of self.new ≡ line_of self.old }
     {
         match reader.read(buffer) {
-            Ok(count) => (Some(count), self.from_server(&buffer[..count])),
+            Ok(count) => (Some(count), self.from_server(line, &buffer[..count])),
             Err(DeviceFault) => (None, Ok(())),
         }
     }

@@ -1,15 +1,13 @@
 //! The connection to the server that the clients in one setting share.
 
 use crate::messages::{Messages, Topic};
-use crate::proxying::ProxySettings;
 use crate::server_link::{Loss, ServerLink};
 use crate::stalled::Stalled;
 use mio::Registry;
 use resp_board::ClientId;
 use resp_net::cause::cause_of;
 use resp_net::stream::Stream;
-use resp_proxy::{Client, Counted, Departed, Numbers, Proxy, ServerError, Setting, Times};
-use resp_value::version::Version;
+use resp_proxy::{Counted, Proxy, RenewError, ServerError, ServerLine, Setting};
 use std::alloc::{AllocError, Global};
 use std::fs::Files;
 use std::io;
@@ -25,23 +23,17 @@ const EAGER: usize = 16_384;
 /// into memory.
 pub(crate) const NOT_CONNECTED: &[u8] = b"-ERR cannot connect to server\r\n";
 
-/// The proxy of a setting, its connection to the server, and the places of its clients'
-/// connections.
+/// The line of a setting, and its connection to the server.
 #[derive(Drop)]
 pub(crate) struct Channel {
     alloc: Global,
-    pub(crate) proxy: Proxy,
+    pub(crate) line: ServerLine,
     pub(crate) link: ServerLink,
     /// The setting as it is shown in lines on standard error. It is empty for the first setting.
     shown: String,
-    /// The place of the connection of each client, indexed by the place in the client's id.
-    places: Vec<usize>,
     stalled: Stalled,
-    /// The number of clients that share the connection, or have left it for another setting that is
-    /// not open yet.
+    /// The number of clients on the line.
     pub(crate) clients: usize,
-    /// The next client that got a reply which was not written.
-    next: Option<ClientId>,
     /// A client that is closed at its next visit, because an allocation failed.
     condemned: Option<ClientId>,
     /// The same client, until it was named for a visit.
@@ -68,20 +60,18 @@ impl Channel {
     /// `AllocError` if an allocation fails.
     pub(crate) fn new(
         alloc: Global,
+        proxy: &mut Proxy,
         link: ServerLink,
         shown: String,
-        settings: &ProxySettings,
     ) -> Result<Self, AllocError> {
-        match new_proxy(alloc, link.setting().version, shown.is_empty(), settings) {
-            Ok(proxy) => Ok(Channel {
+        match proxy.open_line(link.setting()) {
+            Ok(line) => Ok(Channel {
                 alloc,
-                proxy,
+                line,
                 link,
                 shown,
-                places: Vec::new(alloc),
                 stalled: Stalled::new(alloc),
                 clients: 0,
-                next: None,
                 condemned: None,
                 named: None,
                 is_losing: false,
@@ -98,6 +88,30 @@ impl Channel {
         }
     }
 
+    /// Uses a channel without clients for the setting of this link, before the first attempt to
+    /// connect to the server.
+    ///
+    /// # Errors
+    ///
+    /// A [`RenewError`] if the line can't be used. Nothing changes.
+    pub(crate) fn renew(
+        &mut self,
+        proxy: &Proxy,
+        link: ServerLink,
+        shown: String,
+    ) -> Result<(), RenewError> {
+        if let Err(error) = proxy.renew_line(&mut self.line, link.setting()) {
+            drop(link);
+            drop(shown);
+            return Err(error);
+        }
+        self.link = link;
+        self.shown = shown;
+        self.is_losing = false;
+        self.failure = Vec::new(self.alloc);
+        Ok(())
+    }
+
     /// Returns whether clients of this setting may enter now: its connection is open, or it is the
     /// first.
     pub(crate) fn is_ready(&self) -> bool {
@@ -106,28 +120,11 @@ impl Channel {
 
     /// Returns whether the channel may be used for another setting: it has no clients, and nothing
     /// waits for the server or a reply.
-    pub(crate) fn is_free(&self) -> bool {
+    pub(crate) fn is_free(&self, proxy: &Proxy) -> bool {
         !self.shown.is_empty()
             && self.clients == 0
-            && self.proxy.waiting() == 0
-            && self.proxy.unsent() == 0
-    }
-
-    /// Returns the numbers of the channel. A channel without clients does not count as a line.
-    pub(crate) fn numbers(&self) -> Numbers {
-        let numbers = self.proxy.numbers();
-        let lines = if self.is_free() { 0 } else { 1 };
-        Numbers { lines, ..numbers }
-    }
-
-    /// Sets the numbers of the other channels, and the times of all. The first channel counts the times itself.
-    pub(crate) fn set_others(&mut self, others: Numbers, times: Times) {
-        let times = if self.shown.is_empty() {
-            None
-        } else {
-            Some(times)
-        };
-        self.proxy.set_others(others, times);
+            && proxy.waiting(&self.line) == 0
+            && proxy.unsent(&self.line) == 0
     }
 
     /// Returns the time at which the server replied last to a command of a client.
@@ -140,41 +137,13 @@ impl Channel {
         self.link.setting().is_same(setting)
     }
 
-    /// Opens a client for the connection in this place. Returns `None` if an allocation fails.
-    pub(crate) fn open(&mut self, place: usize) -> Option<Client> {
-        let Ok(client) = self.proxy.open() else {
-            return None;
-        };
-        self.seat(client, place)
-    }
-
-    /// Opens a client that has left a setting, for the connection in this place. It gets this reply
-    /// first. Returns `None` if an allocation fails.
-    pub(crate) fn enter(
-        &mut self,
-        departed: Departed,
-        reply: &[u8],
-        place: usize,
-    ) -> Option<Client> {
-        let Ok(client) = self.proxy.enter(departed, reply) else {
-            return None;
-        };
-        self.seat(client, place)
-    }
-
-    /// Notes the place of a client that was opened. If an allocation fails, the client is closed.
-    fn seat(&mut self, client: Client, place: usize) -> Option<Client> {
-        if set_at(&mut self.places, client.id().place, place).is_err() {
-            self.proxy.close(client);
-            return None;
-        }
+    /// Counts a client that uses the line from now on.
+    pub(crate) fn add_client(&mut self) {
         self.clients = self.clients.saturating_add(1);
-        Some(client)
     }
 
-    /// Closes a client.
-    pub(crate) fn close(&mut self, client: Client) {
-        self.proxy.close(client);
+    /// Counts a client that no longer uses the line.
+    pub(crate) fn remove_client(&mut self) {
         self.clients = self.clients.saturating_sub(1);
     }
 
@@ -189,8 +158,15 @@ impl Channel {
 
     /// Counts the commands that were queued, and queues a probe if enough were queued since the
     /// last one. If there is no memory or no random word for it, a later call tries again.
-    pub(crate) fn note_queued(&mut self, random: &impl RandomSource, queued: usize, every: u64) {
-        self.proxy.count(Counted::Queued(queued, self.link.now()));
+    pub(crate) fn note_queued(
+        &mut self,
+        random: &impl RandomSource,
+        proxy: &mut Proxy,
+        queued: usize,
+        every: u64,
+    ) {
+        let now = self.link.now();
+        proxy.count_queued(&mut self.line, queued, now);
         if every == 0 {
             return;
         }
@@ -202,9 +178,17 @@ impl Channel {
         if random.fill_bytes(&mut bytes).is_err() {
             return;
         }
-        if self.proxy.probe(&word_of(bytes)).is_ok() {
+        if self.line.has_prober() || proxy.open_prober(&mut self.line).is_ok() {
+            self.probe(proxy, &word_of(bytes));
+        }
+    }
+
+    /// Queues a probe with this word.
+    fn probe(&mut self, proxy: &mut Proxy, word: &[u8; 32]) {
+        if proxy.probe(&mut self.line, word).is_ok() {
             self.unprobed = 0;
-            self.proxy.count(Counted::Queued(1, self.link.now()));
+            let now = self.link.now();
+            proxy.count_queued(&mut self.line, 1, now);
         }
     }
 
@@ -218,68 +202,58 @@ impl Channel {
     }
 
     /// Returns whether more than this many bytes wait for the server. Clients wait then.
-    pub(crate) fn is_full(&self, unsent: usize) -> bool {
-        self.proxy.unsent() > unsent
-    }
-
-    /// Returns the place of the next connection whose client got a reply.
-    pub(crate) fn next_replied_place(&mut self) -> Option<usize> {
-        let who = self.next_replied()?;
-        self.places.get(who.place).copied()
+    pub(crate) fn is_full(&self, proxy: &Proxy, unsent: usize) -> bool {
+        proxy.unsent(&self.line) > unsent
     }
 
     /// Returns the place of the next connection whose client got room.
-    pub(crate) fn next_stalled_place(&mut self, unsent: usize) -> Option<usize> {
-        if self.is_full(unsent) {
+    pub(crate) fn next_stalled_place(&mut self, proxy: &Proxy, unsent: usize) -> Option<usize> {
+        if self.is_full(proxy, unsent) {
             return None;
         }
         self.stalled.next()
     }
 
-    /// Returns the next client that got a reply which was not written.
-    fn next_replied(&mut self) -> Option<ClientId> {
-        self.next
-            .take()
-            .or_else(|| self.named.take())
-            .or_else(|| self.next_noted())
-    }
-
-    /// Returns the next client that was replied to, which is not the proxy's own.
-    fn next_noted(&mut self) -> Option<ClientId> {
-        for _ in 0..u64::MAX {
-            let who = self.proxy.next_replied()?;
-            if !self.proxy.is_prober(who) {
-                return Some(who);
-            }
-        }
-        None
+    /// Returns the client that is closed at its next visit, unless it was returned before.
+    pub(crate) fn next_condemned(&mut self) -> Option<ClientId> {
+        self.named.take()
     }
 
     /// Returns whether the channel has work to do although no socket is ready.
-    pub(crate) fn has_work(&self, unsent: usize) -> bool {
-        let has_stalled = !self.stalled.is_empty() && !self.is_full(unsent);
-        self.next.is_some() || has_stalled || self.is_losing
+    pub(crate) fn has_work(&self, proxy: &Proxy, unsent: usize) -> bool {
+        let has_stalled = !self.stalled.is_empty() && !self.is_full(proxy, unsent);
+        has_stalled || self.is_losing
     }
 
     /// Returns the time until the link has work to do although its socket is not ready.
-    pub(crate) fn patience(&self) -> Option<Duration> {
-        if !self.is_used() && self.link.is_down() {
+    pub(crate) fn patience(&self, proxy: &Proxy) -> Option<Duration> {
+        if !self.is_used(proxy) && self.link.is_down() {
             return None;
         }
-        self.link.patience(self.proxy.waiting() > 0)
+        self.link.patience(self.waits(proxy))
     }
 
     /// Returns whether the channel needs a connection: it is the first, has clients, or commands
     /// wait.
-    fn is_used(&self) -> bool {
-        !self.is_free()
+    fn is_used(&self, proxy: &Proxy) -> bool {
+        !self.is_free(proxy)
+    }
+
+    /// Returns whether a command waits for a reply.
+    fn waits(&self, proxy: &Proxy) -> bool {
+        proxy.waiting(&self.line) > 0
     }
 
     /// Writes commands if many bytes wait for the server.
-    pub(crate) fn send_eagerly(&mut self, net: &impl Net, messages: &mut Messages) {
-        if self.proxy.unsent() >= EAGER {
-            if let Err(loss) = self.link.send(&mut self.proxy) {
-                self.lose(net, messages, loss);
+    pub(crate) fn send_eagerly(
+        &mut self,
+        net: &impl Net,
+        proxy: &mut Proxy,
+        messages: &mut Messages,
+    ) {
+        if proxy.unsent(&self.line) >= EAGER {
+            if let Err(loss) = self.link.send(proxy, &self.line) {
+                self.lose(net, proxy, messages, loss);
             }
         }
     }
@@ -289,29 +263,30 @@ impl Channel {
     pub(crate) fn work<R: Net + Files>(
         &mut self,
         net: &R,
+        proxy: &mut Proxy,
         messages: &mut Messages,
         registry: &Registry,
         buffer: &mut [u8; 65_536],
     ) {
-        self.finish_connecting(messages);
-        self.exchange(net, messages, buffer);
-        self.ask(net, messages, registry);
-        if let Err(loss) = self.link.judge(self.proxy.waiting() > 0) {
-            self.lose(net, messages, loss);
+        self.finish_connecting(proxy, messages);
+        self.exchange(net, proxy, messages, buffer);
+        self.ask(net, proxy, messages, registry);
+        let waits = self.waits(proxy);
+        if let Err(loss) = self.link.judge(waits) {
+            self.lose(net, proxy, messages, loss);
         }
-        self.finish_losing();
-        self.connect(net, messages, registry);
+        self.finish_losing(proxy);
+        self.connect(net, proxy, messages, registry);
         if self.link.is_down() {
-            self.fail();
+            self.fail(proxy);
         }
-        self.next = self.next_replied();
     }
 
     /// Asks a server that does not reply whether it is busy. The connection to a busy server is not
     /// given up.
-    fn ask(&mut self, net: &impl Net, messages: &mut Messages, registry: &Registry) {
+    fn ask(&mut self, net: &impl Net, proxy: &Proxy, messages: &mut Messages, registry: &Registry) {
         let now = self.link.now();
-        let Some(why) = self.link.ask(net, registry, self.proxy.waiting() > 0) else {
+        let Some(why) = self.link.ask(net, registry, proxy.waiting(&self.line) > 0) else {
             return;
         };
         messages.add(
@@ -328,25 +303,32 @@ impl Channel {
     pub(crate) fn exchange(
         &mut self,
         net: &impl Net,
+        proxy: &mut Proxy,
         messages: &mut Messages,
         buffer: &mut [u8; 65_536],
     ) {
-        let before = self.proxy.waiting();
-        let exchanged = self.link.exchange(&mut self.proxy, buffer);
-        let replied = before.saturating_sub(self.proxy.waiting());
+        let before = proxy.waiting(&self.line);
+        let exchanged = self.link.exchange(proxy, &mut self.line, buffer);
+        let replied = before.saturating_sub(proxy.waiting(&self.line));
         if replied > 0 {
             self.replied_at = self.link.now();
-            self.proxy.count(Counted::Replied(replied, self.link.now()));
+            proxy.count_replied(&mut self.line, replied, self.replied_at);
         }
         if let Err(loss) = exchanged {
-            self.lose(net, messages, loss);
+            self.lose(net, proxy, messages, loss);
         }
     }
 
     /// Starts to connect to the server if there is no connection, one is needed, and the pause is
     /// over.
-    fn connect<R: Net + Files>(&mut self, net: &R, messages: &mut Messages, registry: &Registry) {
-        if self.is_losing || !self.is_used() {
+    fn connect<R: Net + Files>(
+        &mut self,
+        net: &R,
+        proxy: &Proxy,
+        messages: &mut Messages,
+        registry: &Registry,
+    ) {
+        if self.is_losing || !self.is_used(proxy) {
             return;
         }
         if let Err(error) = self.link.connect(net, registry) {
@@ -355,10 +337,10 @@ impl Channel {
     }
 
     /// Notes whether the pending connection is open.
-    fn finish_connecting(&mut self, messages: &mut Messages) {
+    fn finish_connecting(&mut self, proxy: &mut Proxy, messages: &mut Messages) {
         match self.link.finish_connecting() {
             Ok(false) => {}
-            Ok(true) => self.tell_connected(messages),
+            Ok(true) => self.tell_connected(proxy, messages),
             Err(error) => self.tell_failure(messages, &error),
         }
     }
@@ -372,12 +354,13 @@ impl Channel {
     /// lost connection, at least in part, still wait for a reply. The connection is closed.
     pub(crate) fn adopt(
         &mut self,
+        proxy: &mut Proxy,
         stream: Stream,
         hello: Vec<u8>,
         registry: &Registry,
         messages: &mut Messages,
     ) -> io::Result<()> {
-        self.finish_losing();
+        self.finish_losing(proxy);
         if self.is_losing {
             // The replies over this connection would go to the clients of those commands.
             drop(stream);
@@ -385,14 +368,14 @@ impl Channel {
             return Err(ErrorKind::OutOfMemory.into());
         }
         self.link.adopt(stream, hello, registry)?;
-        self.tell_connected(messages);
+        self.tell_connected(proxy, messages);
         Ok(())
     }
 
     /// Counts and prints that the connection is open.
-    fn tell_connected(&mut self, messages: &mut Messages) {
+    fn tell_connected(&mut self, proxy: &mut Proxy, messages: &mut Messages) {
         self.failure = Vec::new(self.alloc);
-        self.proxy.count(Counted::Connected);
+        proxy.count(Counted::Connected);
         self.tell(messages, Topic::Connected, Topic::Connected.words(), "");
     }
 
@@ -433,7 +416,7 @@ impl Channel {
 
     /// Prints that the connection to the server was lost, and replies to the commands that were
     /// sent over it, at least in part.
-    fn lose(&mut self, net: &impl Net, messages: &mut Messages, loss: Loss) {
+    fn lose(&mut self, net: &impl Net, proxy: &mut Proxy, messages: &mut Messages, loss: Loss) {
         // Otherwise a client that waits gets the descriptor of the lost connection.
         self.link.keep_spare(net);
         let why = self.reason_of(loss);
@@ -446,7 +429,7 @@ impl Channel {
         self.tell(messages, Topic::Lost, Topic::Lost.words(), why);
         self.is_losing = true;
         self.is_out_of_step = loss == Loss::Server(ServerError::OutOfStep);
-        self.finish_losing();
+        self.finish_losing(proxy);
     }
 
     /// Returns why a connection was lost, with the words of the server if it sent an error that no
@@ -461,69 +444,49 @@ impl Channel {
 
     /// Replies to the commands that were sent over a lost connection, at least in part. If an
     /// allocation fails, the client of the first command is closed, and the next call continues.
-    fn finish_losing(&mut self) {
+    fn finish_losing(&mut self, proxy: &mut Proxy) {
         if !self.is_losing {
             return;
         }
-        let before = self.proxy.waiting();
+        let before = proxy.waiting(&self.line);
         let lost = if self.is_out_of_step {
-            self.proxy.lose_out_of_step()
+            proxy.lose_out_of_step(&mut self.line)
         } else {
-            self.proxy.lose()
+            proxy.lose(&mut self.line)
         };
-        self.proxy.settle_probes();
-        self.count_failed(before);
+        self.settle(proxy, before);
         match lost {
             Ok(()) => self.is_losing = false,
-            Err(AllocError) => self.condemn(),
+            Err(AllocError) => self.condemn(proxy),
         }
     }
 
     /// Replies to all commands that wait, since there is no connection.
-    fn fail(&mut self) {
-        if self.is_losing || self.proxy.waiting() == 0 {
+    fn fail(&mut self, proxy: &mut Proxy) {
+        if self.is_losing || !self.waits(proxy) {
             return;
         }
-        let before = self.proxy.waiting();
-        let failed = self.proxy.fail(or_not_connected(&self.failure));
-        self.proxy.settle_probes();
-        self.count_failed(before);
+        let before = proxy.waiting(&self.line);
+        let failed = proxy.fail(&mut self.line, or_not_connected(&self.failure));
+        self.settle(proxy, before);
         if failed.is_err() {
-            self.condemn();
+            self.condemn(proxy);
         }
     }
 
-    /// Counts the commands that failed: those by which the number of commands that wait has fallen.
-    fn count_failed(&mut self, before: usize) {
-        let failed = before.saturating_sub(self.proxy.waiting());
-        self.proxy.count(Counted::Failed(failed));
+    /// Removes the replies to probes, and counts the commands that failed: those by which the number
+    /// of commands that wait has fallen.
+    fn settle(&mut self, proxy: &mut Proxy, before: usize) {
+        proxy.settle_probes(&mut self.line);
+        let failed = before.saturating_sub(proxy.waiting(&self.line));
+        proxy.count_failed(&mut self.line, failed);
     }
 
     /// Closes the client of the first command at its next visit, which is soon.
-    fn condemn(&mut self) {
-        self.condemned = self.proxy.next_client();
+    fn condemn(&mut self, proxy: &Proxy) {
+        self.condemned = proxy.next_client(&self.line);
         self.named = self.condemned;
     }
-}
-
-/// Returns the proxy of a setting with this version. The proxy of the first setting itself replies
-/// to commands that concern settings.
-fn new_proxy(
-    alloc: Global,
-    version: Version,
-    is_first: bool,
-    settings: &ProxySettings,
-) -> Result<Proxy, AllocError> {
-    let mut own = settings.proxy;
-    own.version = version;
-    own.limits = own.limits.with_doubles(version == Version::Three);
-    own.answers_settings = is_first;
-    let mut proxy = Proxy::new(alloc, own)?;
-    if settings.check_every > 0 && proxy.open_prober().is_err() {
-        drop(proxy);
-        return Err(AllocError);
-    }
-    Ok(proxy)
 }
 
 /// Returns the reply to commands that wait while there is no connection.
@@ -552,14 +515,4 @@ fn digit(number: u8) -> u8 {
     } else {
         (number - 10) % 26 + b'a'
     }
-}
-
-/// Sets the value at an index, and makes the list longer if needed.
-fn set_at(list: &mut Vec<usize>, index: usize, value: usize) -> Result<(), AllocError> {
-    let length = index.checked_add(1).ok_or(AllocError)?;
-    if list.len() < length {
-        list.resize(length, 0)?;
-    }
-    list[index] = value;
-    Ok(())
 }

@@ -4,8 +4,8 @@ use crate::arrival::{Arrival, Arrived};
 use crate::channel::{Channel, NOT_CONNECTED};
 use crate::entry::Entry;
 use crate::own::Own;
-use crate::plan::{OwnRefusal, Plan, skip};
-use crate::proxied::{Move, Proxied};
+use crate::plan::{OwnRefusal, Plan};
+use crate::proxied::{Move, Proxied, Seat};
 use crate::relay::{Relay, add};
 use crate::server_link::ServerLink;
 use mio::Registry;
@@ -14,12 +14,12 @@ use resp_net::closing::refuse;
 use resp_net::service::Next;
 use resp_net::spare::Spare;
 use resp_net::stream::Stream;
-use resp_proxy::{Counted, Departed, Numbers, Setting};
+use resp_proxy::{Counted, Setting};
 use std::alloc::AllocError;
+use std::io;
 use std::io::ErrorKind;
 use std::net::Net;
 use std::time::Duration;
-use std::{io, mem};
 
 /// How a client gets to the setting that it wants.
 #[derive(Clone, Copy)]
@@ -39,30 +39,30 @@ impl Relay {
         rt: &R,
         connection: &mut Proxied,
         registry: &Registry,
-        from: usize,
     ) -> Next {
-        let limits = self.settings.proxy.limits;
-        let Some(channel) = self.channels.get_mut(from) else {
-            return Next::Close;
-        };
-        let Some(departed) = connection.leave(&mut channel.proxy) else {
+        let Some(seat) = connection.take_seat() else {
             return Next::Wait;
         };
-        let next = match Plan::of(self.alloc, &departed, channel.link.setting(), &limits) {
-            Ok(Some(plan)) => self.follow(rt, connection, registry, from, departed, plan),
-            Ok(None) => self.give_own(rt, connection, registry, from, departed),
-            Err(AllocError) => close(departed),
-        };
-        // Until now the setting could not be taken by another.
-        self.note_left(from);
-        next
+        match self.plan_of(&seat) {
+            Ok(Some(plan)) => self.follow(rt, connection, registry, seat, plan),
+            Ok(None) => self.give_own(rt, connection, registry, seat),
+            Err(AllocError) => self.close_client(seat),
+        }
     }
 
-    /// Counts a client that has left this setting.
-    fn note_left(&mut self, from: usize) {
-        if let Some(channel) = self.channels.get_mut(from) {
-            channel.clients = channel.clients.saturating_sub(1);
-        }
+    /// Returns the plan of a client, or `None` if it needs a connection of its own.
+    fn plan_of(&self, seat: &Seat) -> Result<Option<Plan>, AllocError> {
+        let Some(channel) = self.channels.get(seat.number) else {
+            return Ok(None);
+        };
+        let limits = &self.settings.proxy.limits;
+        Plan::of(self.alloc, &seat.client, channel.link.setting(), limits)
+    }
+
+    /// Closes a client of the proxy, and its connection.
+    fn close_client(&mut self, seat: Seat) -> Next {
+        self.close_seat(seat);
+        Next::Close
     }
 
     /// Moves a client to the setting that it wants, or begins to open a connection for it.
@@ -71,31 +71,29 @@ impl Relay {
         rt: &R,
         connection: &mut Proxied,
         registry: &Registry,
-        from: usize,
-        departed: Departed,
+        seat: Seat,
         plan: Plan,
     ) -> Next {
         match self.way_of(&plan) {
             MovePath::Own => {
                 drop(plan);
-                self.give_own(rt, connection, registry, from, departed)
+                self.give_own(rt, connection, registry, seat)
             }
-            MovePath::Open(number) => self.enter(connection, number, departed, plan),
-            MovePath::New => match self.begin(rt, connection, registry, from, &departed, &plan) {
+            MovePath::Open(number) => self.enter(connection, number, seat, plan),
+            MovePath::New => match self.begin(rt, connection, registry, &seat, &plan) {
                 Ok(arrival) => {
-                    let since = self.waits_since(connection, from);
+                    let since = self.waits_since(connection, seat.number);
                     self.wait(
                         connection,
                         Move {
-                            departed,
+                            seat,
                             plan,
-                            from,
                             arrival,
                             since,
                         },
                     )
                 }
-                Err(error) => self.stay(connection, from, departed, plan, &error),
+                Err(error) => self.stay(connection, seat, plan, &error),
             },
         }
     }
@@ -123,17 +121,16 @@ impl Relay {
         net: &impl Net,
         connection: &Proxied,
         registry: &Registry,
-        from: usize,
-        departed: &Departed,
+        seat: &Seat,
         plan: &Plan,
     ) -> io::Result<Arrival> {
-        let Some(channel) = self.channels.get(from) else {
+        let Some(channel) = self.channels.get(seat.number) else {
             return Err(ErrorKind::NotConnected.into());
         };
         let link = &channel.link;
         let entry = match &plan.setting {
             Some(setting) => Entry::new(self.alloc, setting, link.login()),
-            None => entry_with(link, departed.rest().get(..plan.used)),
+            None => entry_with(link, seat.client.rest().get(..plan.used)),
         };
         let Ok(entry) = entry else {
             return Err(ErrorKind::OutOfMemory.into());
@@ -149,37 +146,23 @@ impl Relay {
 
     /// Lets a client wait for the pending connection.
     fn wait(&mut self, connection: &mut Proxied, moving: Move) -> Next {
-        match Box::new(self.alloc, moving) {
-            Ok(moving) => self.wait_boxed(connection, moving),
-            Err(failed) => close(failed.value),
-        }
-    }
-
-    /// Lets a client wait for the pending connection.
-    fn wait_boxed(&mut self, connection: &mut Proxied, moving: Box<Move>) -> Next {
         if self
             .give_up_later(connection.place(), moving.since)
             .is_err()
         {
-            return close(moving);
+            self.close_moving(moving);
+            return Next::Close;
         }
-        self.begin_move(moving.from);
-        connection.wait(moving);
-        Next::Wait
-    }
-
-    /// Counts a client that waits, and has left this setting.
-    fn begin_move(&mut self, from: usize) {
-        self.moving = self.moving.saturating_add(1);
-        if let Some(channel) = self.channels.get_mut(from) {
-            channel.clients = channel.clients.saturating_add(1);
+        match Box::new(self.alloc, moving) {
+            Ok(moving) => {
+                connection.wait(moving);
+                Next::Wait
+            }
+            Err(failed) => {
+                self.close_moving(failed.value);
+                Next::Close
+            }
         }
-    }
-
-    /// Counts a client that no longer waits.
-    pub(crate) fn end_move(&mut self, from: usize) {
-        self.moving = self.moving.saturating_sub(1);
-        self.note_left(from);
     }
 
     /// Continues to open the connection that a client waits for.
@@ -191,21 +174,17 @@ impl Relay {
         moving: Box<Move>,
     ) -> Next {
         let mut moving = moving;
-        let from = moving.from;
         let arrived = self.arrived(&mut moving);
         if let Ok(Arrived::No) = arrived {
             connection.wait(moving);
             return Next::Wait;
         }
         let moving = Box::into_inner(moving);
-        let next = match arrived {
+        match arrived {
             Ok(Arrived::Rejected) => self.pass_refusal(connection, moving),
             Ok(_) => self.arrive(rt, connection, registry, moving),
             Err(error) => self.pass_failure(connection, moving, &error),
-        };
-        // Until now the setting that the client has left could not be taken by another.
-        self.end_move(from);
-        next
+        }
     }
 
     /// Returns the progress of the connection that a client waits for.
@@ -224,34 +203,25 @@ impl Relay {
     /// Replies with the reason why there is no connection.
     fn pass_failure(&mut self, connection: &mut Proxied, moving: Move, error: &io::Error) -> Next {
         let Move {
-            departed,
+            seat,
             plan,
-            from,
             arrival,
             ..
         } = moving;
-        let next = self.stay(connection, from, departed, plan, error);
+        let next = self.stay(connection, seat, plan, error);
         drop(arrival);
         next
     }
 
-    /// Lets a client continue in the setting that it has left, with the error of the server as the
-    /// reply.
+    /// Lets a client continue in its setting, with the error of the server as the reply.
     fn pass_refusal(&mut self, connection: &mut Proxied, moving: Move) -> Next {
         let Move {
-            departed,
+            seat,
             plan,
-            from,
             arrival,
             ..
         } = moving;
-        let next = self.answer(
-            connection,
-            from,
-            departed,
-            used_by(plan),
-            arrival.entry().refusal(),
-        );
+        let next = self.answer(connection, seat, used_by(plan), arrival.entry().refusal());
         drop(arrival);
         next
     }
@@ -271,21 +241,20 @@ impl Relay {
         moving: Move,
     ) -> Next {
         let Move {
-            departed,
+            seat,
             plan,
-            from,
             arrival,
             ..
         } = moving;
-        match self.place_of(&plan, from) {
+        match self.place_of(&plan, seat.number) {
             Ok(Some((number, setting))) => {
-                match self.use_arrival(rt, registry, number, setting, arrival) {
-                    Ok(()) => self.enter(connection, number, departed, plan),
-                    Err(error) => self.stay(connection, from, departed, plan, &error),
+                match self.use_arrival(registry, number, setting, arrival) {
+                    Ok(()) => self.enter(connection, number, seat, plan),
+                    Err(error) => self.stay(connection, seat, plan, &error),
                 }
             }
             Ok(None) => {
-                let next = self.give_own(rt, connection, registry, from, departed);
+                let next = self.give_own(rt, connection, registry, seat);
                 drop(arrival);
                 drop(plan);
                 next
@@ -293,7 +262,7 @@ impl Relay {
             Err(AllocError) => {
                 drop(arrival);
                 drop(plan);
-                close(departed)
+                self.close_client(seat)
             }
         }
     }
@@ -325,9 +294,8 @@ impl Relay {
 
     /// Lets clients in the setting of this number share a connection that has arrived, if they have
     /// no other.
-    fn use_arrival<R: Net>(
+    fn use_arrival(
         &mut self,
-        rt: &R,
         registry: &Registry,
         number: usize,
         setting: Setting,
@@ -341,7 +309,7 @@ impl Relay {
         let hello = entry.hello().to_vec(self.alloc);
         drop(entry);
         match hello {
-            Ok(hello) => self.adopt(rt, registry, number, stream, hello),
+            Ok(hello) => self.adopt(registry, number, stream, hello),
             Err(_) => {
                 drop(stream);
                 Err(ErrorKind::OutOfMemory.into())
@@ -368,16 +336,16 @@ impl Relay {
 
     /// Makes this stream the connection of the channel with this number. `hello` is the server's
     /// reply to HELLO.
-    fn adopt<R: Net>(
+    fn adopt(
         &mut self,
-        rt: &R,
         registry: &Registry,
         number: usize,
         stream: Stream,
         hello: Vec<u8>,
     ) -> io::Result<()> {
+        let (proxy, messages) = (&mut self.proxy, &mut self.messages);
         match self.channels.get_mut(number) {
-            Some(channel) => channel.adopt(stream, hello, registry, &mut self.messages),
+            Some(channel) => channel.adopt(proxy, stream, hello, registry, messages),
             None => {
                 drop(stream);
                 drop(hello);
@@ -386,82 +354,76 @@ impl Relay {
         }
     }
 
-    /// Opens a client in the setting of this number, whose connection to the server is open.
-    fn enter(
-        &mut self,
-        connection: &mut Proxied,
-        number: usize,
-        departed: Departed,
-        plan: Plan,
-    ) -> Next {
-        let mut departed = departed;
-        let Some(channel) = self.channels.get_mut(number) else {
+    /// Carries out the command with which a client asked for the setting of this number, whose
+    /// connection to the server is open.
+    fn enter(&mut self, connection: &mut Proxied, number: usize, seat: Seat, plan: Plan) -> Next {
+        let mut seat = seat;
+        let used = plan.used;
+        let Some(channel) = self.channels.get(number) else {
             drop(plan);
-            return close(departed);
+            return self.close_client(seat);
         };
         let link = &channel.link;
-        match plan.carry_out(self.alloc, &mut departed, link.setting(), link.hello()) {
-            Ok(reply) => self.seat(connection, number, departed, &reply),
-            Err(AllocError) => close(departed),
+        match plan.carry_out(self.alloc, &mut seat.client, link.setting(), link.hello()) {
+            Ok(reply) => self.seat(connection, number, seat, used, &reply),
+            Err(AllocError) => self.close_client(seat),
         }
     }
 
-    /// Opens a client in the setting of this number. It gets this reply first.
+    /// Lets a client use the line of the setting of this number from now on. `used` is the number of
+    /// bytes of its next command, which gets this reply.
     fn seat(
         &mut self,
         connection: &mut Proxied,
         number: usize,
-        departed: Departed,
-        reply: &[u8],
-    ) -> Next {
-        let Some(channel) = self.channels.get_mut(number) else {
-            return close(departed);
-        };
-        match channel.enter(departed, reply, connection.place()) {
-            Some(client) => {
-                connection.enter(number, client);
-                Next::Again
-            }
-            None => Next::Close,
-        }
-    }
-
-    /// Lets a client continue in the setting that it has left, with this reply to the command that
-    /// moved it.
-    fn answer(
-        &mut self,
-        connection: &mut Proxied,
-        from: usize,
-        departed: Departed,
+        seat: Seat,
         used: usize,
         reply: &[u8],
     ) -> Next {
-        let mut departed = departed;
-        skip(&mut departed, used);
-        self.seat(connection, from, departed, reply)
+        let mut seat = seat;
+        let used = used.min(seat.client.rest().len());
+        let Some(channel) = self.channels.get_mut(number) else {
+            return self.close_client(seat);
+        };
+        let entered = self
+            .proxy
+            .enter(&mut seat.client, &channel.line, used, reply);
+        if entered.is_err() {
+            return self.close_client(seat);
+        }
+        channel.add_client();
+        if let Some(left) = self.channels.get_mut(seat.number) {
+            left.remove_client();
+        }
+        seat.number = number;
+        connection.enter(seat);
+        Next::Again
+    }
+
+    /// Lets a client continue in its setting, with this reply to its next command.
+    fn answer(&mut self, connection: &mut Proxied, seat: Seat, used: usize, reply: &[u8]) -> Next {
+        let number = seat.number;
+        self.seat(connection, number, seat, used, reply)
     }
 
     /// Replies to a command for which there is no connection, with the reason. The client is
-    /// closed, unless it continues in the setting that it has left.
+    /// closed, unless it continues in its setting.
     fn stay(
         &mut self,
         connection: &mut Proxied,
-        from: usize,
-        departed: Departed,
+        seat: Seat,
         plan: Plan,
         error: &io::Error,
     ) -> Next {
         let (goes_on, used) = (plan.goes_on, used_by(plan));
         if !goes_on {
-            drop(departed);
+            self.close_seat(seat);
             return self.give_up(connection, error);
         }
         let cause = cause_of(error);
         match format!(in self.alloc; "-ERR cannot connect to server: {cause}\r\n") {
-            Ok(reply) => {
-                self.answer(connection, from, departed, used, reply.as_str().as_bytes())
-            }
-            Err(_) => self.answer(connection, from, departed, used, NOT_CONNECTED),
+            Ok(reply) => self.answer(connection, seat, used, reply.as_str().as_bytes()),
+            Err(_) => self.answer(connection, seat, used, NOT_CONNECTED),
         }
     }
 
@@ -471,50 +433,56 @@ impl Relay {
         rt: &R,
         connection: &mut Proxied,
         registry: &Registry,
-        from: usize,
-        departed: Departed,
+        seat: Seat,
     ) -> Next {
         if !self.may_give_own() {
-            return self.refuse_own(connection, from, departed);
+            return self.refuse_own(connection, seat);
         }
-        let Some(channel) = self.channels.get(from) else {
-            return close(departed);
+        let Some(channel) = self.channels.get(seat.number) else {
+            return self.close_client(seat);
         };
         let link = &channel.link;
         let Ok(entry) = entry_of_own(link) else {
-            return close(departed);
+            return self.close_client(seat);
         };
         let token = connection.server_token();
         match Arrival::begin(rt, link.backend(), registry, token, entry) {
-            Ok(arrival) => self.wait_for_own(connection, from, departed, arrival),
+            Ok(arrival) => self.wait_for_own(connection, seat, arrival),
             Err(error) => {
-                drop(departed);
+                self.close_seat(seat);
                 self.give_up(connection, &error)
             }
         }
     }
 
     /// Lets a client wait for its own connection, which is pending.
-    fn wait_for_own(
-        &mut self,
-        connection: &mut Proxied,
-        from: usize,
-        departed: Departed,
-        arrival: Arrival,
-    ) -> Next {
-        let since = self.waits_since(connection, from);
+    fn wait_for_own(&mut self, connection: &mut Proxied, seat: Seat, arrival: Arrival) -> Next {
+        let since = self.waits_since(connection, seat.number);
         if self.give_up_later(connection.place(), since).is_err() {
             drop(arrival);
-            return close(departed);
+            return self.close_client(seat);
         }
-        let own = Own::new(self.alloc, arrival, since, departed.into_rest());
-        match Box::new(self.alloc, own) {
+        let Seat { number, client } = seat;
+        let first = match self.proxy.leave(client) {
+            Ok(first) => first,
+            Err(client) => {
+                drop(arrival);
+                return self.close_client(Seat { number, client });
+            }
+        };
+        if let Some(left) = self.channels.get_mut(number) {
+            left.remove_client();
+        }
+        match Box::new(self.alloc, Own::new(self.alloc, arrival, since, first)) {
             Ok(own) => {
                 connection.give_own(own);
                 self.count(Counted::OwnOpened);
                 Next::Wait
             }
-            Err(failed) => close(failed.value),
+            Err(failed) => {
+                drop(failed.value);
+                Next::Close
+            }
         }
     }
 
@@ -537,29 +505,25 @@ impl Relay {
 
     /// Tells a client that no more clients may get a connection of their own, and closes it unless
     /// it continues without one.
-    fn refuse_own(&mut self, connection: &mut Proxied, from: usize, departed: Departed) -> Next {
-        match OwnRefusal::of(self.alloc, departed.rest(), &self.settings.proxy.limits) {
+    fn refuse_own(&mut self, connection: &mut Proxied, seat: Seat) -> Next {
+        let limits = &self.settings.proxy.limits;
+        match OwnRefusal::of(self.alloc, seat.client.rest(), limits) {
             Ok(Some(refusal)) if refusal.goes_on => {
-                self.answer(connection, from, departed, refusal.used, &refusal.reply)
+                self.answer(connection, seat, refusal.used, &refusal.reply)
             }
             Ok(Some(refusal)) => {
                 refuse(connection.stream(), &refusal.reply);
-                close(departed)
+                self.close_client(seat)
             }
-            Ok(None) | Err(AllocError) => close(departed),
+            Ok(None) | Err(AllocError) => self.close_client(seat),
         }
     }
 
     /// Returns the number of a setting that is in use.
     fn find(&self, setting: &Setting) -> Option<usize> {
-        let mut number = 0;
-        for channel in &self.channels {
-            if channel.is_in(setting) {
-                return Some(number);
-            }
-            number = usize::saturating_add(number, 1);
-        }
-        None
+        self.channels
+            .iter()
+            .position(|channel| channel.is_in(setting))
     }
 
     /// Returns whether clients may enter the setting of this number now.
@@ -575,14 +539,9 @@ impl Relay {
         if self.channels.len() < self.settings.lines {
             return Some(self.channels.len());
         }
-        let mut number = 0;
-        for channel in &self.channels {
-            if channel.is_free() {
-                return Some(number);
-            }
-            number = usize::saturating_add(number, 1);
-        }
-        None
+        self.channels
+            .iter()
+            .position(|channel| channel.is_free(&self.proxy))
     }
 
     /// Returns the number of a setting, which is in use from now on. Returns `None` if too many are
@@ -594,59 +553,44 @@ impl Relay {
         let Some(number) = self.free_number() else {
             return Ok(None);
         };
-        let channel = self.new_channel(number, setting, from)?;
-        self.share_counts();
-        self.put(number, channel)?;
+        self.open_channel(number, setting, from)?;
         Ok(Some(number))
     }
 
-    /// Replaces the channel with this number, or appends a channel.
-    fn put(&mut self, number: usize, channel: Channel) -> Result<(), AllocError> {
-        match self.channels.get_mut(number) {
-            Some(place) => {
-                let numbers = place.proxy.numbers();
-                self.gone = self.gone.plus(Numbers {
-                    lines: 0,
-                    ..numbers
-                });
-                drop(mem::replace(place, channel));
-                Ok(())
-            }
-            None => add(&mut self.channels, channel),
-        }
-    }
-
-    /// Returns a channel in a setting, whose connection is not open.
-    fn new_channel(
-        &self,
+    /// Uses the channel with this number for a setting, or appends a channel. Its connection is not
+    /// open.
+    fn open_channel(
+        &mut self,
         number: usize,
         setting: &Setting,
         from: usize,
-    ) -> Result<Channel, AllocError> {
-        let Some(channel) = self.channels.get(from) else {
-            return Err(AllocError);
-        };
+    ) -> Result<(), AllocError> {
+        let link = self.new_link(number, setting, from)?;
         let shown = setting.shown(self.alloc)?;
-        let link = self.new_link(number, setting, &channel.link)?;
-        let mut channel = Channel::new(self.alloc, link, shown, &self.settings)?;
-        match self.admit_all(&mut channel) {
-            Ok(()) => Ok(channel),
-            Err(AllocError) => {
-                drop(channel);
-                Err(AllocError)
+        match self.channels.get_mut(number) {
+            Some(channel) => match channel.renew(&self.proxy, link, shown) {
+                Ok(()) => Ok(()),
+                Err(_) => Err(AllocError),
+            },
+            None => {
+                let channel = Channel::new(self.alloc, &mut self.proxy, link, shown)?;
+                add(&mut self.channels, channel)
             }
         }
     }
 
-    /// Returns a link in a setting to the server of another link.
+    /// Returns a link in a setting to the server of the setting with the number `from`.
     fn new_link(
         &self,
         number: usize,
         setting: &Setting,
-        old: &ServerLink,
+        from: usize,
     ) -> Result<ServerLink, AllocError> {
-        let backend = old.backend().copy(self.alloc)?;
-        let login = old.login().to_vec(self.alloc)?;
+        let Some(channel) = self.channels.get(from) else {
+            return Err(AllocError);
+        };
+        let backend = channel.link.backend().copy(self.alloc)?;
+        let login = channel.link.login().to_vec(self.alloc)?;
         let setting = setting.copy(self.alloc)?;
         let patience = self.settings.patience;
         Ok(ServerLink::new(
@@ -659,20 +603,6 @@ impl Relay {
             Spare::none(),
         ))
     }
-
-    /// Admits in a channel the commands that the other channels admit.
-    fn admit_all(&self, channel: &mut Channel) -> Result<(), AllocError> {
-        for name in &self.also {
-            channel.proxy.admit(name)?;
-        }
-        Ok(())
-    }
-}
-
-/// Closes a connection, and drops what its client had.
-fn close<T: Drop>(departed: T) -> Next {
-    drop(departed);
-    Next::Close
 }
 
 /// Returns the number of bytes of the command of a plan.

@@ -2,7 +2,7 @@
 
 use bytes::BytesMut;
 use resp_line::{InlineCommand, InlineError, begins_line, next_inline};
-use resp_proxy::{Departed, Setting, Wish, WishCommand, is_client_name, next_wish, no_more};
+use resp_proxy::{Client, Setting, Wish, WishCommand, is_client_name, next_wish, no_more};
 use resp_value::limits::Limits;
 use std::alloc::{AllocError, Global};
 
@@ -34,19 +34,19 @@ pub(crate) struct Plan {
 }
 
 impl Plan {
-    /// Returns the plan of a client that has left this setting, or `None` if it needs a connection
-    /// of its own.
+    /// Returns the plan of a client that leaves this setting, or `None` if it needs a connection of its
+    /// own.
     ///
     /// # Errors
     ///
     /// `AllocError` if an allocation fails.
     pub(crate) fn of(
         alloc: Global,
-        departed: &Departed,
+        client: &Client,
         setting: &Setting,
         limits: &Limits,
     ) -> Result<Option<Plan>, AllocError> {
-        let text = departed.rest();
+        let text = client.rest();
         if let Some(line) = line_of(alloc, text, limits)? {
             return match next_wish(line.array.as_slice(), limits) {
                 Some(asking) => Plan::by(alloc, asking, line.used, setting),
@@ -95,8 +95,8 @@ impl Plan {
         Ok(Some(plan))
     }
 
-    /// Removes the command from the bytes of the client, gives the client its name, and returns the
-    /// reply to the command. `hello` is the reply to HELLO over the connection that it shares now.
+    /// Gives the client its name, and returns the reply to the command. `hello` is the reply to HELLO
+    /// over the connection that it shares from now on.
     ///
     /// # Errors
     ///
@@ -104,7 +104,7 @@ impl Plan {
     pub(crate) fn carry_out(
         self,
         alloc: Global,
-        departed: &mut Departed,
+        client: &mut Client,
         setting: &Setting,
         hello: &[u8],
     ) -> Result<Vec<u8>, AllocError> {
@@ -112,18 +112,16 @@ impl Plan {
             setting: wanted,
             kind,
             name,
-            used,
             ..
         } = self;
         drop(wanted);
         if let Some(name) = name {
-            departed.set_name(name);
+            client.set_name(name);
         }
-        skip(departed, used);
         match kind {
             Kind::Okay => b"+OK\r\n".to_vec(alloc),
             Kind::Reset => b"+RESET\r\n".to_vec(alloc),
-            Kind::Hello => departed.hello(alloc, setting.version, hello),
+            Kind::Hello => client.hello(alloc, setting.version, hello),
         }
     }
 }
@@ -212,10 +210,4 @@ fn with_words(command: InlineCommand) -> Option<FirstLine> {
         Some(array) => Some(FirstLine { array, used }),
         None => None,
     }
-}
-
-/// Removes the first of the bytes that a departed client has.
-pub(crate) fn skip(departed: &mut Departed, count: usize) {
-    let count = count.min(departed.rest().len());
-    departed.skip(count);
 }

@@ -13,7 +13,7 @@ use resp_net::lane::{Progress, after_write};
 use resp_net::non_blocking::{Input, Output};
 use resp_net::service::{Next, Tokens};
 use resp_net::stream::Stream;
-use resp_proxy::{Client, Departed, Proxy, Read, WriteOutcome};
+use resp_proxy::{Client, Proxy, Read, WriteOutcome};
 use std::net::Shutdown;
 use std::time::Duration;
 use std::{io, mem};
@@ -35,8 +35,8 @@ pub(crate) struct Proxied {
 /// How the commands of a client reach the server.
 #[derive(Drop)]
 pub(crate) enum ClientPath {
-    /// Over the connection that clients in the setting of this number share.
-    Shared(usize, Client),
+    /// Over the connection that clients in a setting share.
+    Shared(Seat),
     /// Not yet: a connection in another setting is opened.
     Moving(Box<Move>),
     /// Over a dedicated connection.
@@ -47,13 +47,20 @@ pub(crate) enum ClientPath {
     Closed,
 }
 
+/// A client of the proxy.
+#[derive(Drop)]
+pub(crate) struct Seat {
+    /// The number of its setting.
+    pub(crate) number: usize,
+    pub(crate) client: Client,
+}
+
 /// A client that waits for a connection in another setting.
 #[derive(Drop)]
 pub(crate) struct Move {
-    pub(crate) departed: Departed,
+    /// The client, in the setting that it leaves.
+    pub(crate) seat: Seat,
     pub(crate) plan: Plan,
-    /// The number of the setting that it has left.
-    pub(crate) from: usize,
     pub(crate) arrival: Arrival,
     /// The time since which the client has waited for it.
     pub(crate) since: Duration,
@@ -75,7 +82,7 @@ impl Proxied {
         Proxied {
             stream,
             tokens,
-            link: ClientPath::Shared(0, client),
+            link: ClientPath::Shared(Seat { number: 0, client }),
             may_read: false,
             is_at_end: false,
             leaving_since: None,
@@ -85,7 +92,7 @@ impl Proxied {
     /// Returns the number of the setting and the id of the client, while it shares a connection.
     pub(crate) fn seat(&self) -> Option<(usize, ClientId)> {
         match &self.link {
-            ClientPath::Shared(number, client) => Some((*number, client.id())),
+            ClientPath::Shared(seat) => Some((seat.number, seat.client.id())),
             _ => None,
         }
     }
@@ -99,7 +106,7 @@ impl Proxied {
     /// Stops reading from a client that shares a connection.
     pub(crate) fn shut(&mut self, proxy: &mut Proxy) {
         match &mut self.link {
-            ClientPath::Shared(_, client) if !client.is_closing() => proxy.shut(client),
+            ClientPath::Shared(seat) if !seat.client.is_closing() => proxy.shut(&mut seat.client),
             _ => {}
         }
     }
@@ -114,7 +121,7 @@ impl Proxied {
     /// Returns whether bytes are to be read from the client as soon as there is room.
     pub(crate) fn waits_for_room(&self) -> bool {
         match &self.link {
-            ClientPath::Shared(_, client) => self.may_read && may_take(client),
+            ClientPath::Shared(seat) => self.may_read && may_take(&seat.client),
             _ => false,
         }
     }
@@ -122,7 +129,7 @@ impl Proxied {
     /// Returns whether this proxy, which the client shares, has room for its next command.
     pub(crate) fn has_room(&self, proxy: &Proxy) -> bool {
         match &self.link {
-            ClientPath::Shared(_, client) => proxy.has_room(client),
+            ClientPath::Shared(seat) => proxy.has_room(&seat.client),
             _ => false,
         }
     }
@@ -131,17 +138,17 @@ impl Proxied {
     /// command needs it, and all replies to the commands before were written.
     pub(crate) fn leaves(&self, proxy: &Proxy) -> bool {
         match &self.link {
-            ClientPath::Shared(_, client) => proxy.may_leave(client),
+            ClientPath::Shared(seat) => proxy.may_leave(&seat.client),
             _ => false,
         }
     }
 
     /// Notes whether the next command of a client that shares a connection needs another one.
     pub(crate) fn note_leaving(&mut self, now: Duration) {
-        if let ClientPath::Shared(_, client) = &self.link {
+        if let ClientPath::Shared(seat) = &self.link {
             self.leaving_since = match self.leaving_since {
-                Some(since) if client.is_leaving() => Some(since),
-                None if client.is_leaving() => Some(now),
+                Some(since) if seat.client.is_leaving() => Some(since),
+                None if seat.client.is_leaving() => Some(now),
                 _ => None,
             };
         }
@@ -155,7 +162,7 @@ impl Proxied {
     /// Returns the number of bytes that wait for a client that shares a connection.
     pub(crate) fn unread(&self, proxy: &Proxy) -> usize {
         match &self.link {
-            ClientPath::Shared(_, client) => proxy.unread(client),
+            ClientPath::Shared(seat) => proxy.unread(&seat.client),
             _ => 0,
         }
     }
@@ -166,9 +173,10 @@ impl Proxied {
         requires { 0 < length buffer.old }
     {
         let waits = self.waits_for_room();
-        let ClientPath::Shared(_, client) = &mut self.link else {
+        let ClientPath::Shared(seat) = &mut self.link else {
             return Next::Wait;
         };
+        let client = &mut seat.client;
         let written = if waits {
             let exchanged = exchange(
                 proxy,
@@ -192,28 +200,12 @@ impl Proxied {
         next(proxy, client, self.may_read, written)
     }
 
-    /// Closes the client in this proxy, which it shares, if it may leave. Returns what it keeps.
-    pub(crate) fn leave(&mut self, proxy: &mut Proxy) -> Option<Departed> {
+    /// Returns the client if it shares a connection. Put it back, or close it.
+    pub(crate) fn take_seat(&mut self) -> Option<Seat> {
         match self.take_link() {
-            ClientPath::Shared(number, client) => self.leave_shared(proxy, number, client),
+            ClientPath::Shared(seat) => Some(seat),
             link => {
                 self.set_link(link);
-                None
-            }
-        }
-    }
-
-    /// Closes a client that this proxy shares, if it may leave. Otherwise it continues as before.
-    fn leave_shared(
-        &mut self,
-        proxy: &mut Proxy,
-        number: usize,
-        client: Client,
-    ) -> Option<Departed> {
-        match proxy.leave(client) {
-            Ok(departed) => Some(departed),
-            Err(client) => {
-                self.set_link(ClientPath::Shared(number, client));
                 None
             }
         }
@@ -224,9 +216,9 @@ impl Proxied {
         drop(mem::replace(&mut self.link, link));
     }
 
-    /// Lets the client share the connection of the setting of this number.
-    pub(crate) fn enter(&mut self, number: usize, client: Client) {
-        self.set_link(ClientPath::Shared(number, client));
+    /// Lets the client share the connection of its setting.
+    pub(crate) fn enter(&mut self, seat: Seat) {
+        self.set_link(ClientPath::Shared(seat));
         // The client may hold bytes that are taken before anything is read.
         self.may_read = true;
     }
@@ -271,7 +263,7 @@ impl Proxied {
         requires { 0 < length buffer.old }
     {
         match &mut self.link {
-            ClientPath::Shared(..) | ClientPath::Moving(_) => Ok(None),
+            ClientPath::Shared(_) | ClientPath::Moving(_) => Ok(None),
             ClientPath::Own(own) => {
                 let next = own.visit(&self.stream, self.is_at_end, is_late, buffer)?;
                 Ok(Some(next))

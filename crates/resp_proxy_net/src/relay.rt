@@ -3,10 +3,11 @@
 use crate::channel::{Channel, NOT_CONNECTED};
 use crate::learner::{Learned, Learner};
 use crate::messages::{Messages, Topic};
-use crate::proxied::{ClientPath, Proxied};
+use crate::proxied::{ClientPath, Move, Proxied, Seat};
 use crate::proxying::ProxySettings;
 use crate::server_link::ServerLink;
 use mio::Registry;
+use resp_board::ClientId;
 use resp_net::backend::Backend;
 use resp_net::cause::cause_of;
 use resp_net::closing::{LINGER, refuse};
@@ -16,7 +17,7 @@ use resp_net::lane::PIECE;
 use resp_net::service::{Next, Tokens, shorter};
 use resp_net::spare::Spare;
 use resp_net::stream::Stream;
-use resp_proxy::{Client, Counted, Numbers, Setting, Times};
+use resp_proxy::{Counted, Numbers, Proxy, Setting, Times};
 use std::alloc::{AllocError, Global};
 use std::fs::{File, Files};
 use std::io;
@@ -32,30 +33,24 @@ const CLIENT_PIECE: usize = PIECE;
 /// The most bytes of one read of the server.
 const SERVER_PIECE: usize = 65_536;
 
-/// The time between two sums of how long replies took, in milliseconds.
-const SUMMED: u64 = 100;
-
-/// The proxies of all settings, their connections to the server, and the clients that move between
-/// them.
+/// The proxy, its connections to the server, and the clients that move between them.
 #[derive(Drop)]
 pub(crate) struct Relay {
     pub(crate) alloc: Global,
     pub(crate) settings: ProxySettings,
+    pub(crate) proxy: Proxy,
     /// The settings that clients are in. In the first one every client begins.
     pub(crate) channels: Vec<Channel>,
-    /// The names of the commands that all channels admit although the table does not have them.
-    pub(crate) also: Vec<Vec<u8>>,
-    /// The numbers of settings that are not in use any more.
-    pub(crate) gone: Numbers,
-    /// The clients that wait for a connection in another setting.
-    pub(crate) moving: u64,
+    /// The place of the connection of each client, indexed by the place in the client's id.
+    places: Vec<usize>,
+    /// The next client that got a reply which was not written.
+    next: Option<ClientId>,
+    /// The names of the commands that are admitted although the table does not have them.
+    also: Vec<Vec<u8>>,
     /// The times at which clients that wait for another connection are given up.
     pub(crate) moves: Deadlines,
     /// The times at which the connections of clients to which nothing more is sent are closed.
     closing: Deadlines,
-    /// The time of the next sum of how long replies took.
-    summed: Duration,
-    times: Times,
     drain: Drain,
     /// Whether the server was asked for its commands since the connection to it was opened.
     has_learned: bool,
@@ -74,10 +69,7 @@ impl Relay {
         if self.also.push(copy).is_err() {
             return Err(AllocError);
         }
-        for channel in &mut self.channels {
-            channel.proxy.admit(name)?;
-        }
-        Ok(())
+        self.proxy.admit(name)
     }
 
     /// Returns whether a command of this name was admitted.
@@ -138,21 +130,19 @@ impl Relay {
         let spare = Spare::new(rt);
         let messages = Messages::new(rt, alloc)?;
         let link = ServerLink::new(alloc, backend, 0, setting, login, settings.patience, spare);
-        let channels = only(
-            alloc,
-            Channel::new(alloc, link, String::new(alloc), &settings)?,
-        )?;
+        let mut proxy = Proxy::new(alloc, settings.proxy)?;
+        let first = Channel::new(alloc, &mut proxy, link, String::new(alloc))?;
+        let channels = only(alloc, first)?;
         Ok(Relay {
             alloc,
             settings,
+            proxy,
             channels,
+            places: Vec::new(alloc),
+            next: None,
             also: Vec::new(alloc),
-            gone: Numbers::default(),
-            moving: 0,
             moves: Deadlines::new(alloc),
             closing: Deadlines::new(alloc),
-            summed: Duration::from_millis(0),
-            times: Times::default(),
             drain: Drain::new(rt, settings.drain_timeout),
             has_learned: false,
             messages,
@@ -170,9 +160,14 @@ impl Relay {
         let Some(first) = self.channels.first_mut() else {
             return Err(ErrorKind::OutOfMemory.into());
         };
-        let Some(client) = first.open(tokens.place) else {
+        let Ok(client) = self.proxy.open(&first.line) else {
             return Err(ErrorKind::OutOfMemory.into());
         };
+        if set_at(&mut self.places, client.id().place, tokens.place).is_err() {
+            self.proxy.close(client);
+            return Err(ErrorKind::OutOfMemory.into());
+        }
+        first.add_client();
         self.drain.note_place(tokens.place);
         Ok(Proxied::new(stream, tokens, client))
     }
@@ -187,11 +182,8 @@ impl Relay {
     /// Closes a client by its link.
     fn end(&mut self, link: ClientPath) {
         match link {
-            ClientPath::Shared(number, client) => self.close_shared(number, client),
-            ClientPath::Moving(moving) => {
-                self.end_move(moving.from);
-                drop(moving);
-            }
+            ClientPath::Shared(seat) => self.close_seat(seat),
+            ClientPath::Moving(moving) => self.close_moving(Box::into_inner(moving)),
             ClientPath::Own(own) => {
                 self.count(Counted::OwnClosed);
                 drop(own);
@@ -200,18 +192,31 @@ impl Relay {
         }
     }
 
-    /// Closes a client that shares the connection of the setting of this number.
-    fn close_shared(&mut self, number: usize, client: Client) {
+    /// Closes a client of the proxy.
+    pub(crate) fn close_seat(&mut self, seat: Seat) {
+        let Seat { number, client } = seat;
+        self.proxy.close(client);
         if let Some(channel) = self.channels.get_mut(number) {
-            channel.close(client);
+            channel.remove_client();
         }
     }
 
-    /// Counts in the first setting.
+    /// Closes a client that waits for a connection in another setting.
+    pub(crate) fn close_moving(&mut self, moving: Move) {
+        let Move {
+            seat,
+            plan,
+            arrival,
+            ..
+        } = moving;
+        drop(plan);
+        drop(arrival);
+        self.close_seat(seat);
+    }
+
+    /// Counts an event.
     pub(crate) fn count(&mut self, counted: Counted) {
-        if let Some(first) = self.channels.first_mut() {
-            first.proxy.count(counted);
-        }
+        self.proxy.count(counted);
     }
 
     /// Begins to drain: nothing more is read from clients, and each is closed when its commands have
@@ -234,12 +239,9 @@ impl Relay {
         }
     }
 
-    /// Returns the numbers of all settings, and how long replies took.
+    /// Returns the numbers of the proxy, and how long replies took.
     pub(crate) fn numbers(&self) -> (Numbers, Times) {
-        match self.channels.first() {
-            Some(first) => (first.proxy.all_numbers(), first.proxy.times()),
-            None => (Numbers::default(), Times::default()),
-        }
+        (self.proxy.numbers(), self.proxy.times())
     }
 
     /// Reads and writes the sockets of a client.
@@ -327,25 +329,26 @@ impl Relay {
         if channel.is_condemned(who) {
             return Next::Close;
         }
+        let proxy = &mut self.proxy;
         if is_draining {
-            connection.shut(&mut channel.proxy);
+            connection.shut(proxy);
         }
-        channel.proxy.admit_own(may_leave);
-        let before = channel.proxy.waiting();
-        let next = connection.visit(&mut channel.proxy, &mut self.client_buffer);
+        proxy.admit_own(may_leave);
+        let before = proxy.waiting(&channel.line);
+        let next = connection.visit(proxy, &mut self.client_buffer);
         connection.note_leaving(channel.link.now());
-        let queued = channel.proxy.waiting().saturating_sub(before);
-        channel.note_queued(rt, queued, self.settings.check_every);
-        channel.send_eagerly(rt, &mut self.messages);
-        if connection.unread(&channel.proxy) > self.settings.unread {
-            channel.proxy.count(Counted::Unread);
+        let queued = proxy.waiting(&channel.line).saturating_sub(before);
+        channel.note_queued(rt, proxy, queued, self.settings.check_every);
+        channel.send_eagerly(rt, proxy, &mut self.messages);
+        if connection.unread(proxy) > self.settings.unread {
+            proxy.count(Counted::Unread);
             return Next::Close;
         }
-        if connection.leaves(&channel.proxy) {
-            return self.leave(rt, connection, registry, number);
+        if connection.leaves(proxy) {
+            return self.leave(rt, connection, registry);
         }
         if next == Next::Wait && connection.waits_for_room() {
-            return wait_for_room(channel, connection, self.settings.proxy.unsent);
+            return wait_for_room(channel, proxy, connection, self.settings.proxy.unsent);
         }
         next
     }
@@ -357,10 +360,7 @@ impl Relay {
 
     /// Returns whether a client may get a connection of its own.
     pub(crate) fn may_give_own(&self) -> bool {
-        match self.channels.first() {
-            Some(first) => first.proxy.numbers().own < self.settings.own as u64,
-            None => false,
-        }
+        self.proxy.own_clients() < self.settings.own as u64
     }
 
     /// Tells a client that it gets no connection of its own, and why.
@@ -376,10 +376,8 @@ impl Relay {
 
     /// Returns the place of the next connection whose client got a reply or room.
     pub(crate) fn next_due(&mut self) -> Option<usize> {
-        for channel in &mut self.channels {
-            if let Some(place) = channel.next_replied_place() {
-                return Some(place);
-            }
+        if let Some(place) = self.next_replied_place() {
+            return Some(place);
         }
         if let Some(place) = self.next_late() {
             return Some(place);
@@ -388,8 +386,58 @@ impl Relay {
             return Some(place);
         }
         for channel in &mut self.channels {
-            if let Some(place) = channel.next_stalled_place(self.settings.proxy.unsent) {
+            if let Some(place) = channel.next_stalled_place(
+                &self.proxy,
+                self.settings.proxy.unsent,
+            ) {
                 return Some(place);
+            }
+        }
+        None
+    }
+
+    /// Returns the place of the next connection whose client got a reply.
+    fn next_replied_place(&mut self) -> Option<usize> {
+        for _ in 0..u64::MAX {
+            let who = self.next_replied()?;
+            if let Some(place) = self.places.get(who.place) {
+                return Some(*place);
+            }
+        }
+        None
+    }
+
+    /// Returns the next client that got a reply which was not written.
+    fn next_replied(&mut self) -> Option<ClientId> {
+        self.next
+            .take()
+            .or_else(|| self.next_noted())
+            .or_else(|| self.next_condemned())
+    }
+
+    /// Returns the next client that was replied to, which is not the proxy's own.
+    fn next_noted(&mut self) -> Option<ClientId> {
+        for _ in 0..u64::MAX {
+            let who = self.proxy.next_replied()?;
+            if !self.is_prober(who) {
+                return Some(who);
+            }
+        }
+        None
+    }
+
+    /// Returns whether this is the proxy's own client that sends probes over a line.
+    fn is_prober(&self, who: ClientId) -> bool {
+        self.channels
+            .iter()
+            .any(|channel| channel.line.is_prober(who))
+    }
+
+    /// Returns the next client that is closed at its next visit.
+    fn next_condemned(&mut self) -> Option<ClientId> {
+        for channel in &mut self.channels {
+            if let Some(who) = channel.next_condemned() {
+                return Some(who);
             }
         }
         None
@@ -407,15 +455,18 @@ impl Relay {
 
     /// Returns the longest time of the next wait.
     pub(crate) fn patience(&self) -> Option<Duration> {
+        if self.next.is_some() {
+            return Some(Duration::from_millis(0));
+        }
         let now = self.now();
         let mut shortest = shorter(self.moves.patience(now), self.closing.patience(now));
         shortest = shorter(shortest, self.drain.patience(now));
         shortest = shorter(shortest, self.messages.patience(now));
         for channel in &self.channels {
-            if channel.has_work(self.settings.proxy.unsent) {
+            if channel.has_work(&self.proxy, self.settings.proxy.unsent) {
                 return Some(Duration::from_millis(0));
             }
-            shortest = shorter(shortest, channel.patience());
+            shortest = shorter(shortest, channel.patience(&self.proxy));
         }
         shortest
     }
@@ -425,7 +476,8 @@ impl Relay {
         self.look_at_clock(rt);
         if let Some(channel) = self.channels.get_mut(number) {
             channel.link.note_ready(is_at_end);
-            channel.exchange(rt, &mut self.messages, &mut self.server_buffer);
+            let (proxy, messages) = (&mut self.proxy, &mut self.messages);
+            channel.exchange(rt, proxy, messages, &mut self.server_buffer);
         }
     }
 
@@ -446,43 +498,26 @@ impl Relay {
         registry: &Registry,
     ) {
         self.look_at_clock(rt);
+        let (proxy, messages) = (&mut self.proxy, &mut self.messages);
         for channel in &mut self.channels {
-            channel.work(rt, &mut self.messages, registry, &mut self.server_buffer);
+            channel.work(rt, proxy, messages, registry, &mut self.server_buffer);
         }
-        self.share_numbers();
+        self.next = self.next_replied();
+        self.count_idle();
         let now = self.now();
         self.drain.look(rt, now);
         self.messages.print(now, rt);
     }
 
-    /// Tells each setting the numbers of the others.
-    fn share_numbers(&mut self) {
-        let mut all = self.gone;
-        all.clients = all.clients.saturating_add(self.moving);
+    /// Counts the settings that no client is in.
+    fn count_idle(&mut self) {
+        let mut idle = 0;
         for channel in &self.channels {
-            all = all.plus(channel.numbers());
-        }
-        if self.summed <= self.now() && self.settings.lines > 1 {
-            self.summed = self.now().saturating_add(Duration::from_millis(SUMMED));
-            self.times = times_of(&mut self.channels);
-            self.share_counts();
-        }
-        let times = self.times;
-        for channel in &mut self.channels {
-            let others = all.minus(channel.numbers());
-            channel.set_others(others, times);
-        }
-    }
-
-    /// Counts the commands by name and the error replies of all settings in the first one, and shows them to
-    /// the others. Without memory the others show what they showed before.
-    pub(crate) fn share_counts(&mut self) {
-        if let Some((first, others)) = self.channels.split_first_mut() {
-            take_counts(first, others);
-            if let Ok(lines) = first.proxy.count_lines() {
-                show_lines(&lines, others);
+            if channel.is_free(&self.proxy) {
+                idle = usize::saturating_add(idle, 1);
             }
         }
+        self.proxy.set_idle_lines(idle);
     }
 
     /// Counts a client that was rejected.
@@ -493,11 +528,16 @@ impl Relay {
 
 /// Returns when a client is visited next that is to be read, after a visit which left nothing else to do.
 /// Bytes for the server may have been sent since it was not read, so there may be room now.
-fn wait_for_room(channel: &mut Channel, connection: &Proxied, unsent: usize) -> Next {
-    if connection.has_room(&channel.proxy) {
+fn wait_for_room(
+    channel: &mut Channel,
+    proxy: &Proxy,
+    connection: &Proxied,
+    unsent: usize,
+) -> Next {
+    if connection.has_room(proxy) {
         return Next::Again;
     }
-    if !channel.is_full(unsent) {
+    if !channel.is_full(proxy, unsent) {
         // It is visited when it gets a reply, or when its socket accepts bytes.
         return Next::Wait;
     }
@@ -522,34 +562,12 @@ pub(crate) fn add(channels: &mut Vec<Channel>, channel: Channel) -> Result<(), A
     if is_pushed { Ok(()) } else { Err(AllocError) }
 }
 
-/// Counts the times of all settings in the first one, and returns them.
-fn times_of(channels: &mut [Channel]) -> Times {
-    match channels.split_first_mut() {
-        Some((first, others)) => sum_times(first, others),
-        None => Times::default(),
+/// Sets the value at an index, and makes the list longer if needed.
+fn set_at(list: &mut Vec<usize>, index: usize, value: usize) -> Result<(), AllocError> {
+    let length = index.checked_add(1).ok_or(AllocError)?;
+    if list.len() < length {
+        list.resize(length, 0)?;
     }
-}
-
-/// Counts the times of other settings in this one, and returns the times of all.
-fn sum_times(first: &mut Channel, others: &mut [Channel]) -> Times {
-    for channel in others {
-        first.proxy.take_times(&mut channel.proxy);
-    }
-    first.proxy.times()
-}
-
-/// Counts the commands by name and the error replies of other settings in this one.
-fn take_counts(first: &mut Channel, others: &mut [Channel]) {
-    for channel in others {
-        first.proxy.take_counts(&mut channel.proxy);
-    }
-}
-
-/// Sets the lines about commands by name and error replies that settings show.
-fn show_lines(lines: &String, channels: &mut [Channel]) {
-    for channel in channels {
-        if let Ok(copy) = lines.clone() {
-            channel.proxy.set_count_lines(copy);
-        }
-    }
+    list[index] = value;
+    Ok(())
 }

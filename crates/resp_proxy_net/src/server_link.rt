@@ -14,7 +14,7 @@ use resp_net::register::register;
 use resp_net::service::{FURTHER, shorter, token_of};
 use resp_net::spare::Spare;
 use resp_net::stream::Stream;
-use resp_proxy::{Proxy, ServerError, Setting, WriteOutcome};
+use resp_proxy::{Proxy, ServerError, ServerLine, Setting, WriteOutcome};
 use resp_schedule::{Attempts, Phase};
 use std::alloc::{AllocError, Global};
 use std::fs::Files;
@@ -268,7 +268,7 @@ impl ServerLink {
     /// says whether a command waits for a reply.
     pub(crate) fn patience(&self, waits: bool) -> Option<Duration> {
         match &self.state {
-            LinkState::Open(line) if line.may_read => Some(Duration::from_millis(0)),
+            LinkState::Open(open) if open.may_read => Some(Duration::from_millis(0)),
             _ => shorter(self.attempts.time_left(waits), self.time_to_ask(waits)),
         }
     }
@@ -337,9 +337,9 @@ impl ServerLink {
 
     /// Notes that the socket is ready.
     pub(crate) fn note_ready(&mut self, is_at_end: bool) {
-        if let LinkState::Open(line) = &mut self.state {
-            line.may_read = true;
-            line.is_at_end = line.is_at_end || is_at_end;
+        if let LinkState::Open(open) = &mut self.state {
+            open.may_read = true;
+            open.is_at_end = open.is_at_end || is_at_end;
         }
     }
 
@@ -541,20 +541,26 @@ impl ServerLink {
         self.set_state(LinkState::Down);
     }
 
-    /// Reads replies and writes commands until each call would block, or 16 of each were made.
+    /// Reads replies and writes commands of this line until each call would block, or 16 of each were
+    /// made.
     ///
     /// # Errors
     ///
     /// Why the connection was lost. It is closed.
-    pub(crate) fn exchange(&mut self, proxy: &mut Proxy, buffer: &mut [u8]) -> Result<(), Loss>
+    pub(crate) fn exchange(
+        &mut self,
+        proxy: &mut Proxy,
+        line: &mut ServerLine,
+        buffer: &mut [u8],
+    ) -> Result<(), Loss>
         requires { 0 < length buffer.old }
     {
-        let LinkState::Open(line) = &mut self.state else {
+        let LinkState::Open(open) = &mut self.state else {
             return Ok(());
         };
-        let before = proxy.waiting();
-        let exchanged = line.exchange(proxy, buffer, &mut self.unasked);
-        if proxy.waiting() < before {
+        let before = proxy.waiting(line);
+        let exchanged = open.exchange(proxy, line, buffer, &mut self.unasked);
+        if proxy.waiting(line) < before {
             self.attempts.note_replies();
         }
         if exchanged.is_err() {
@@ -583,16 +589,16 @@ impl ServerLink {
         Ok(())
     }
 
-    /// Writes commands until a write would block, or 16 were made.
+    /// Writes commands of this line until a write would block, or 16 were made.
     ///
     /// # Errors
     ///
     /// Why the connection was lost. It is closed.
-    pub(crate) fn send(&mut self, proxy: &mut Proxy) -> Result<(), Loss> {
-        let LinkState::Open(line) = &mut self.state else {
+    pub(crate) fn send(&mut self, proxy: &mut Proxy, line: &ServerLine) -> Result<(), Loss> {
+        let LinkState::Open(open) = &mut self.state else {
             return Ok(());
         };
-        let sent = line.send(proxy);
+        let sent = open.send(proxy, line);
         if sent.is_err() {
             self.pause();
         }
@@ -615,6 +621,7 @@ impl OpenConnection {
     fn exchange(
         &mut self,
         proxy: &mut Proxy,
+        line: &mut ServerLine,
         buffer: &mut [u8],
         unasked: &mut Vec<u8>,
     ) -> Result<(), Loss>
@@ -624,30 +631,30 @@ impl OpenConnection {
             if !self.may_read {
                 break;
             }
-            self.visit(proxy, buffer, unasked)?;
+            self.visit(proxy, line, buffer, unasked)?;
         }
-        self.send(proxy)
+        self.send(proxy, line)
     }
 
     /// Makes one read and at most one write.
     fn visit(
         &mut self,
         proxy: &mut Proxy,
+        line: &mut ServerLine,
         buffer: &mut [u8],
         unasked: &mut Vec<u8>,
     ) -> Result<(), Loss>
         requires { 0 < length buffer.old }
     {
-        let stream = &self.stream;
-        self.may_read = exchange(proxy, stream, stream, self.is_at_end, buffer, unasked)?;
+        self.may_read = exchange(proxy, line, &self.stream, self.is_at_end, buffer, unasked)?;
         Ok(())
     }
 
     /// Writes commands until a write would block, or 16 were made.
-    fn send(&mut self, proxy: &mut Proxy) -> Result<(), Loss> {
+    fn send(&mut self, proxy: &mut Proxy, line: &ServerLine) -> Result<(), Loss> {
         for _ in 0..TURNS {
             let mut writer = Device::new(Output::new(&self.stream));
-            let written = proxy.send(&mut writer);
+            let written = proxy.send(line, &mut writer);
             let writer = writer.into_inner();
             if writer.has_failed() {
                 return Err(Loss::Write);
@@ -660,22 +667,22 @@ impl OpenConnection {
     }
 }
 
-/// Reads bytes of the server from the reader, and writes bytes that wait for it to the writer.
-/// Returns whether another read may return bytes.
+/// Reads bytes of the server over a line from its socket, and writes bytes that wait for it. Returns
+/// whether another read may return bytes.
 fn exchange(
     proxy: &mut Proxy,
-    reader: &Stream,
-    writer: &Stream,
+    line: &mut ServerLine,
+    stream: &Stream,
     is_at_end: bool,
     buffer: &mut [u8],
     unasked: &mut Vec<u8>,
 ) -> Result<bool, Loss>
     requires { 0 < length buffer.old }
 {
-    let mut reader = Device::new(Input::new(reader, is_at_end));
-    let mut writer = Device::new(Output::new(writer));
-    let visit = proxy.visit_server(&mut reader, &mut writer, buffer);
-    proxy.settle_probes();
+    let mut reader = Device::new(Input::new(stream, is_at_end));
+    let mut writer = Device::new(Output::new(stream));
+    let visit = proxy.visit_server(line, &mut reader, &mut writer, buffer);
+    proxy.settle_probes(line);
     let is_dry = reader.into_inner().would_wait();
     if writer.into_inner().has_failed() {
         return Err(Loss::Write);

@@ -3,7 +3,7 @@
 use crate::cuts::Tally;
 use anyhow::Result;
 use resp_io::MemorySink;
-use resp_proxy::{Client, Proxy, Settings};
+use resp_proxy::{Client, Proxy, Setting, Settings};
 use std::alloc::Global;
 
 const FIRST: &[u8] = b"*2\r\n$3\r\nGET\r\n$1\r\na\r\n*1\r\n$4\r\nPING\r\n";
@@ -33,12 +33,13 @@ fn given(alloc: Global, proxy: &mut Proxy, client: &Client) -> Result<Vec<u8>> {
 /// between the two pieces of the first.
 fn is_right(alloc: Global, cut: usize, server_cut: usize) -> Result<bool> {
     let mut proxy = Proxy::new(alloc, Settings::standard())?;
-    let (mut first, mut second) = (proxy.open()?, proxy.open()?);
+    let mut line = proxy.open_line(&Setting::first(alloc)?)?;
+    let (mut first, mut second) = (proxy.open(&line)?, proxy.open(&line)?);
     proxy.from_client(&mut first, &FIRST[..cut])?;
     proxy.from_client(&mut second, SECOND)?;
     proxy.from_client(&mut first, &FIRST[cut..])?;
     let mut sink = MemorySink::new(alloc, MOST, MOST)?;
-    let _ = proxy.send(&mut sink);
+    let _ = proxy.send(&line, &mut sink);
     // The second client's command follows the commands of the first that ended before it.
     let (before, after) = FIRST.split_at(if cut < GET { 0 } else { GET });
     let is_sent = sink.bytes().len() == FIRST.len() + SECOND.len()
@@ -50,8 +51,8 @@ fn is_right(alloc: Global, cut: usize, server_cut: usize) -> Result<bool> {
     } else {
         TO_SECOND_BETWEEN
     };
-    proxy.from_server(&replies[..server_cut])?;
-    proxy.from_server(&replies[server_cut..])?;
+    proxy.from_server(&mut line, &replies[..server_cut])?;
+    proxy.from_server(&mut line, &replies[server_cut..])?;
     let is_given = given(alloc, &mut proxy, &first)?.as_slice()
         == b"$2\r\nof\r\n+PONG\r\n".as_slice()
         && given(alloc, &mut proxy, &second)?.as_slice() == b"$3\r\nonb\r\n".as_slice();

@@ -2,10 +2,12 @@
 //! closed, and the other clients go on.
 
 use crate::outcome::Outcome;
-use resp_board::OpenError;
+use resp_board::{OpenError, OwnError};
 use resp_frames::FrameError;
 use resp_io::MemorySink;
-use resp_proxy::{Client, ClientError, Proxy, ServerError, Setting, Settings, next_wish};
+use resp_proxy::{
+    Client, ClientError, EnterError, Proxy, ServerError, ServerLine, Setting, Settings, next_wish,
+};
 use std::alloc::{AllocError, Global};
 
 const PING: &[u8] = b"*1\r\n$4\r\nPING\r\n";
@@ -16,35 +18,42 @@ const MOVES: &[u8] = b"*2\r\n$6\r\nSELECT\r\n$1\r\n7\r\n*1\r\n$4\r\nPING\r\n";
 /// The number of bytes of SELECT.
 const SELECT: usize = 23;
 
-/// Returns a proxy with two clients.
-fn two_clients(alloc: Global) -> Result<(Proxy, Client, Client), AllocError> {
+/// Returns a proxy with a line in the first setting.
+fn one_line(alloc: Global) -> Result<(Proxy, ServerLine), AllocError> {
     let mut proxy = Proxy::new(alloc, Settings::standard())?;
-    let (Ok(first), Ok(second)) = (proxy.open(), proxy.open()) else {
+    let line = proxy.open_line(&Setting::first(alloc)?)?;
+    Ok((proxy, line))
+}
+
+/// Returns a proxy with a line and two clients.
+fn two_clients(alloc: Global) -> Result<(Proxy, ServerLine, Client, Client), AllocError> {
+    let (mut proxy, line) = one_line(alloc)?;
+    let (Ok(first), Ok(second)) = (proxy.open(&line), proxy.open(&line)) else {
         return Err(AllocError);
     };
-    Ok((proxy, first, second))
+    Ok((proxy, line, first, second))
 }
 
 /// Returns whether a client whose command could not be taken is closing, and whether the other
 /// client goes on.
-fn goes_on(proxy: &mut Proxy, closed: &Client, other: &mut Client) -> bool {
-    let waiting = proxy.waiting();
+fn goes_on(proxy: &mut Proxy, line: &ServerLine, closed: &Client, other: &mut Client) -> bool {
+    let waiting = proxy.waiting(line);
     let taken = proxy.from_client(other, PING);
-    closed.is_closing() && taken.is_ok() && proxy.waiting() == waiting + 1
+    closed.is_closing() && taken.is_ok() && proxy.waiting(line) == waiting + 1
 }
 
 pub(crate) fn of_open(alloc: Global) -> Outcome {
-    let Ok(mut proxy) = Proxy::new(alloc, Settings::standard()) else {
+    let Ok((mut proxy, line)) = one_line(alloc) else {
         return Outcome::OutOfMemory;
     };
     for _ in 0..9 {
-        match proxy.open() {
+        match proxy.open(&line) {
             Ok(client) => {
                 if client.is_closing() {
                     return Outcome::Wrong;
                 }
             }
-            Err(OpenError::OutOfMemory) => return Outcome::refused(proxy.open().is_ok()),
+            Err(OpenError::OutOfMemory) => return Outcome::refused(proxy.open(&line).is_ok()),
             Err(_) => return Outcome::Wrong,
         }
     }
@@ -80,25 +89,25 @@ pub(crate) fn of_lines(alloc: Global) -> Outcome {
 
 /// A client sends four pieces, which have one command for the server.
 fn of_pieces(alloc: Global, pieces: [&[u8]; 4]) -> Outcome {
-    let Ok((mut proxy, mut first, mut second)) = two_clients(alloc) else {
+    let Ok((mut proxy, mut line, mut first, mut second)) = two_clients(alloc) else {
         return Outcome::OutOfMemory;
     };
     for piece in pieces {
         match proxy.from_client(&mut first, piece) {
             Ok(()) => {}
             Err(ClientError::OutOfMemory | ClientError::Protocol(_)) => {
-                return Outcome::refused(goes_on(&mut proxy, &first, &mut second));
+                return Outcome::refused(goes_on(&mut proxy, &line, &first, &mut second));
             }
             Err(_) => return Outcome::Wrong,
         }
     }
-    Outcome::of(proxy.waiting() == 1 && !first.is_closing())
+    Outcome::of(proxy.waiting(&line) == 1 && !first.is_closing())
 }
 
 /// A client whose second command needs a connection of its own, in three pieces. It gets this
 /// connection after the reply to the first one.
 pub(crate) fn of_leaving(alloc: Global) -> Outcome {
-    let Ok((mut proxy, mut first, mut second)) = two_clients(alloc) else {
+    let Ok((mut proxy, mut line, mut first, mut second)) = two_clients(alloc) else {
         return Outcome::OutOfMemory;
     };
     proxy.admit_own(true);
@@ -111,7 +120,7 @@ pub(crate) fn of_leaving(alloc: Global) -> Outcome {
         match proxy.from_client(&mut first, piece) {
             Ok(()) => {}
             Err(ClientError::OutOfMemory | ClientError::Protocol(_)) => {
-                return Outcome::refused(goes_on(&mut proxy, &first, &mut second));
+                return Outcome::refused(goes_on(&mut proxy, &line, &first, &mut second));
             }
             Err(_) => return Outcome::Wrong,
         }
@@ -119,44 +128,59 @@ pub(crate) fn of_leaving(alloc: Global) -> Outcome {
     if proxy.may_leave(&first) || !first.is_leaving() {
         return Outcome::Wrong;
     }
-    if pong(alloc, &mut proxy, &first).is_err() {
+    if pong(alloc, &mut proxy, &mut line, &first).is_err() {
         return Outcome::OutOfMemory;
     }
     if !proxy.may_leave(&first) {
         return Outcome::Wrong;
     }
-    let Ok(departed) = proxy.leave(first) else {
+    let Ok(rest) = proxy.leave(first) else {
         return Outcome::Wrong;
     };
-    Outcome::of(departed.rest() == b"*1\r\n$5\r\nMULTI\r\n*1\r\n$4\r\nEXEC\r\n".as_slice())
+    Outcome::of(rest.as_slice() == b"*1\r\n$5\r\nMULTI\r\n*1\r\n$4\r\nEXEC\r\n".as_slice())
 }
 
-/// A client moves to another proxy, and gets the reply to its command and the name that it had.
-/// Without memory it is lost, and the other client of that proxy goes on.
+/// A client moves to another line, and gets the reply to its command there. Without memory it stays
+/// where it is, and moves when it is asked again.
 pub(crate) fn of_moving(alloc: Global) -> Outcome {
-    let Ok((mut proxy, mut first, _)) = two_clients(alloc) else {
-        return Outcome::OutOfMemory;
-    };
-    let Ok((mut other, closed, mut second)) = two_clients(alloc) else {
+    let Ok((mut proxy, line, mut first, _)) = two_clients(alloc) else {
         return Outcome::OutOfMemory;
     };
     proxy.admit_own(true);
     if proxy.from_client(&mut first, MOVES).is_err() {
         return Outcome::OutOfMemory;
     }
-    let Ok(mut departed) = proxy.leave(first) else {
-        return Outcome::Wrong;
+    let Ok(seven) = in_database_seven(alloc) else {
+        return Outcome::OutOfMemory;
     };
-    departed.skip(SELECT.min(departed.rest().len()));
-    match other.enter(departed, b"+OK\r\n") {
-        Ok(client) => Outcome::of(client.id() != second.id() && other.numbers().clients == 3),
-        Err(OpenError::OutOfMemory) => {
-            other.close(closed);
-            let taken = other.from_client(&mut second, PING);
-            Outcome::refused(taken.is_ok() && other.numbers().clients == 1)
+    let Ok(other) = proxy.open_line(&seven) else {
+        return Outcome::refused(proxy.may_leave(&first));
+    };
+    let used = SELECT.min(first.rest().len());
+    match proxy.enter(&mut first, &other, used, b"+OK\r\n") {
+        Ok(()) => Outcome::of(moves_on(&mut proxy, &line, &other, &mut first)),
+        Err(EnterError::Own(OwnError::OutOfMemory)) => {
+            let again = proxy.enter(&mut first, &other, used, b"+OK\r\n").is_ok();
+            Outcome::refused(again && !first.is_leaving())
         }
         Err(_) => Outcome::Wrong,
     }
+}
+
+/// Returns whether a client that has moved to a line has its reply, and its next command waits there.
+fn moves_on(proxy: &mut Proxy, line: &ServerLine, other: &ServerLine, client: &mut Client) -> bool {
+    let owed = proxy.unread(client);
+    let taken = proxy.from_client(client, b"");
+    // Without memory for its command it is closing.
+    let waits = proxy.waiting(other) == 1 || (taken.is_err() && client.is_closing());
+    owed == 5 && proxy.waiting(line) == 0 && waits
+}
+
+/// Returns the setting of database 7.
+fn in_database_seven(alloc: Global) -> Result<Setting, AllocError> {
+    let mut setting = Setting::first(alloc)?;
+    setting.database = b"7".to_vec(alloc)?;
+    Ok(setting)
 }
 
 /// The setting after SELECT, and its commands for a new connection.
@@ -180,10 +204,15 @@ fn commands_of_setting(alloc: Global) -> Result<Vec<u8>, AllocError> {
 }
 
 /// Sends the commands that wait, of which the first is PING, and gives the client the reply to it.
-fn pong(alloc: Global, proxy: &mut Proxy, client: &Client) -> Result<(), AllocError> {
+fn pong(
+    alloc: Global,
+    proxy: &mut Proxy,
+    line: &mut ServerLine,
+    client: &Client,
+) -> Result<(), AllocError> {
     let mut server = MemorySink::new(alloc, 100, 100)?;
-    let _ = proxy.send(&mut server);
-    if proxy.from_server(b"+PONG\r\n").is_err() {
+    let _ = proxy.send(line, &mut server);
+    if proxy.from_server(line, b"+PONG\r\n").is_err() {
         return Err(AllocError);
     }
     let mut writer = MemorySink::new(alloc, 100, 100)?;
@@ -208,7 +237,7 @@ fn is_told(alloc: Global, proxy: &mut Proxy, clients: [&Client; 2]) -> Result<bo
 
 /// A reply, and the loss of the connection while a command waits.
 pub(crate) fn of_server(alloc: Global) -> Outcome {
-    let Ok((mut proxy, mut first, mut second)) = two_clients(alloc) else {
+    let Ok((mut proxy, mut line, mut first, mut second)) = two_clients(alloc) else {
         return Outcome::OutOfMemory;
     };
     for client in [&mut first, &mut second] {
@@ -219,18 +248,18 @@ pub(crate) fn of_server(alloc: Global) -> Outcome {
     let Ok(mut server) = MemorySink::new(alloc, 100, 100) else {
         return Outcome::OutOfMemory;
     };
-    let _ = proxy.send(&mut server);
-    let mut refused = proxy.from_server(b"+PONG\r\n+P").is_err();
-    if proxy.lose().is_err() {
+    let _ = proxy.send(&line, &mut server);
+    let mut refused = proxy.from_server(&mut line, b"+PONG\r\n+P").is_err();
+    if proxy.lose(&mut line).is_err() {
         refused = true;
-        if proxy.lose().is_err() {
+        if proxy.lose(&mut line).is_err() {
             return Outcome::Wrong;
         }
     }
     let Ok(is_told) = is_told(alloc, &mut proxy, [&first, &second]) else {
         return Outcome::OutOfMemory;
     };
-    let holds = is_told && proxy.waiting() == 0 && proxy.from_client(&mut first, PING).is_ok();
+    let holds = is_told && proxy.waiting(&line) == 0 && proxy.from_client(&mut first, PING).is_ok();
     if refused {
         Outcome::refused(holds)
     } else {
@@ -240,62 +269,64 @@ pub(crate) fn of_server(alloc: Global) -> Outcome {
 
 /// A probe, whose reply is expected only if the probe was queued.
 pub(crate) fn of_probe(alloc: Global) -> Outcome {
-    let Ok(mut proxy) = Proxy::new(alloc, Settings::standard()) else {
+    let Ok((mut proxy, mut line)) = one_line(alloc) else {
         return Outcome::OutOfMemory;
     };
-    let mut refused = proxy.open_prober().is_err();
-    if refused && proxy.open_prober().is_err() {
+    let mut refused = proxy.open_prober(&mut line).is_err();
+    if refused && proxy.open_prober(&mut line).is_err() {
         return Outcome::Wrong;
     }
-    if proxy.probe(&[b'x'; 32]).is_err() {
+    if proxy.probe(&mut line, &[b'x'; 32]).is_err() {
         refused = true;
-        if proxy.waiting() != 0 || proxy.probe(&[b'y'; 32]).is_err() {
+        if proxy.waiting(&line) != 0 || proxy.probe(&mut line, &[b'y'; 32]).is_err() {
             return Outcome::Wrong;
         }
     }
     let Ok(mut server) = MemorySink::new(alloc, 100, 100) else {
         return Outcome::OutOfMemory;
     };
-    let _ = proxy.send(&mut server);
+    let _ = proxy.send(&line, &mut server);
     let Some(word) = server.bytes().get(19..) else {
         return Outcome::Wrong;
     };
-    let taken = match proxy.from_server(b"$32\r\n") {
-        Ok(()) => proxy.from_server(word),
+    let taken = match proxy.from_server(&mut line, b"$32\r\n") {
+        Ok(()) => proxy.from_server(&mut line, word),
         Err(error) => Err(error),
     };
-    proxy.settle_probes();
+    proxy.settle_probes(&mut line);
     match taken {
-        Ok(()) if proxy.waiting() == 0 && refused => Outcome::OutOfMemory,
-        Ok(()) if proxy.waiting() == 0 => Outcome::Whole,
+        Ok(()) if proxy.waiting(&line) == 0 && refused => Outcome::OutOfMemory,
+        Ok(()) if proxy.waiting(&line) == 0 => Outcome::Whole,
         Ok(()) | Err(ServerError::OutOfStep) => Outcome::Wrong,
         // The reply is lost with its connection.
-        Err(_) => Outcome::refused(!refused && proxy.lose().is_ok() && proxy.waiting() == 0),
+        Err(_) => Outcome::refused(
+            !refused && proxy.lose(&mut line).is_ok() && proxy.waiting(&line) == 0,
+        ),
     }
 }
 
 /// A reply in three pieces, with the beginning of the next. After a failed allocation nobody has the
 /// reply, and the command still waits.
 pub(crate) fn of_reply(alloc: Global) -> Outcome {
-    let Ok((mut proxy, mut first, _)) = two_clients(alloc) else {
+    let Ok((mut proxy, mut line, mut first, _)) = two_clients(alloc) else {
         return Outcome::OutOfMemory;
     };
     let Ok(mut sink) = MemorySink::new(alloc, 100, 100) else {
         return Outcome::OutOfMemory;
     };
     if proxy.from_client(&mut first, PING).is_err() {
-        return Outcome::refused(proxy.unsent() == 0 && proxy.waiting() == 0);
+        return Outcome::refused(proxy.unsent(&line) == 0 && proxy.waiting(&line) == 0);
     }
-    let _ = proxy.send(&mut sink);
+    let _ = proxy.send(&line, &mut sink);
     for piece in [b"$20\r\n01".as_slice(), b"2345678901234567", b"89\r\n"] {
-        match proxy.from_server(piece) {
+        match proxy.from_server(&mut line, piece) {
             Ok(()) => {}
             Err(ServerError::Frame(FrameError::OutOfMemory) | ServerError::OutOfMemory) => {
-                let stands = proxy.waiting() == 1 && proxy.unread(&first) == 0;
-                return Outcome::refused(stands && proxy.lose().is_ok());
+                let stands = proxy.waiting(&line) == 1 && proxy.unread(&first) == 0;
+                return Outcome::refused(stands && proxy.lose(&mut line).is_ok());
             }
             Err(_) => return Outcome::Wrong,
         }
     }
-    Outcome::of(proxy.waiting() == 0 && proxy.unread(&first) == 27)
+    Outcome::of(proxy.waiting(&line) == 0 && proxy.unread(&first) == 27)
 }

@@ -15,7 +15,7 @@ mod world;
 use anyhow::Result;
 use orders::next_order;
 use replay::{Fault, Replay};
-use resp_proxy::{ClientError, Proxy, Settings};
+use resp_proxy::{ClientError, Proxy, Setting, Settings};
 use std::alloc::Global;
 use world::World;
 
@@ -41,7 +41,8 @@ fn main(rt: HostRuntime) -> Result<()> {
 fn told_to_a_stranger(alloc: Global) -> Result<(String, String)> {
     let mut own = Proxy::new(alloc, Settings::standard())?;
     let mut other = Proxy::new(alloc, Settings::standard())?;
-    let mut client = own.open()?;
+    let line = own.open_line(&Setting::first(alloc)?)?;
+    let mut client = own.open(&line)?;
     let first = told(alloc, other.from_client(&mut client, b"PING\r\n"))?;
     let second = told(alloc, other.from_client(&mut client, b""))?;
     Ok((first, second))

@@ -3,7 +3,7 @@
 use crate::replay::{Fault, LENGTH, Replay, key_of};
 use anyhow::{Context, Result};
 use resp_io::{MemorySink, MemorySource};
-use resp_proxy::{Client, Proxy, Settings};
+use resp_proxy::{Client, Proxy, ServerLine, Setting, Settings};
 use std::alloc::Global;
 
 /// The bytes of a command around its key.
@@ -19,6 +19,7 @@ const MOST: usize = 4_096;
 pub struct World {
     alloc: Global,
     proxy: Proxy,
+    line: ServerLine,
     clients: Vec<Option<Client>>,
     /// The bytes that each client has got.
     got: Vec<Vec<u8>>,
@@ -34,15 +35,17 @@ pub struct World {
 impl World {
     pub fn new(alloc: Global) -> Result<Self> {
         let mut proxy = Proxy::new(alloc, Settings::standard())?;
+        let line = proxy.open_line(&Setting::first(alloc)?)?;
         let mut clients = Vec::new(alloc);
         let mut got = Vec::new(alloc);
         for _ in 0..2 {
-            clients.push(Some(proxy.open()?))?;
+            clients.push(Some(proxy.open(&line)?))?;
             got.push(Vec::new(alloc))?;
         }
         Ok(World {
             alloc,
             proxy,
+            line,
             clients,
             got,
             counts: [0; 2],
@@ -74,7 +77,7 @@ impl World {
     /// The server takes at most `most` bytes.
     pub fn send(&mut self, most: usize) -> Result<()> {
         let mut writer = MemorySink::new(self.alloc, most, most)?;
-        let _ = self.proxy.send(&mut writer);
+        let _ = self.proxy.send(&self.line, &mut writer);
         let whole = self.heard.len() / LENGTH;
         self.heard.extend_from_slice(writer.bytes())?;
         for place in whole..self.heard.len() / LENGTH {
@@ -102,7 +105,7 @@ impl World {
         let mut text = b"$2\r\n".to_vec(self.alloc)?;
         text.extend_from_slice(&key)?;
         text.extend_from_slice(b"\r\n")?;
-        self.proxy.from_server(text.as_slice())?;
+        self.proxy.from_server(&mut self.line, text.as_slice())?;
         self.give()
     }
 
@@ -127,7 +130,7 @@ impl World {
                 Ok(())
             }
             Fault::Lose => {
-                self.proxy.lose()?;
+                self.proxy.lose(&mut self.line)?;
                 self.heard.clear();
                 self.replied = 0;
                 self.give()

@@ -5,7 +5,7 @@ use crate::subject::Subject;
 use crate::text::{bytes, number, split};
 use anyhow::{Context, Result, bail};
 use resp_io::{MemorySink, MemorySource};
-use resp_proxy::{Client, Departed, Proxy, Read, ServerError, Settings};
+use resp_proxy::{Client, Proxy, Read, ServerError, ServerLine, Setting, Settings};
 use resp_value::version::Version;
 use std::alloc::Global;
 use std::mem;
@@ -25,21 +25,16 @@ struct Seat {
     closing: Option<Read>,
 }
 
-/// A client that has left its proxy, and the bytes that it has sent and that were not read.
-#[derive(Drop)]
-struct Gone {
-    number: u64,
-    departed: Departed,
-    pending: Vec<u8>,
-}
-
 /// A proxy, its open clients, and the bytes that the server has got in a row.
 #[derive(Drop)]
 pub(crate) struct Proxying {
     alloc: Global,
     proxy: Proxy,
+    /// The line of the clients that are opened.
+    line: ServerLine,
     seats: Vec<Seat>,
-    gone: Vec<Gone>,
+    /// The clients that are leaving and have all their replies.
+    leaving: Vec<Seat>,
     sent: Vec<u8>,
     /// The numbers of the clients that were replied to by the last row of the server, in order. A
     /// client that was closed has number 0.
@@ -52,11 +47,14 @@ pub(crate) struct Proxying {
 
 impl Subject for Proxying {
     fn new(alloc: Global) -> Result<Proxying> {
+        let mut proxy = Proxy::new(alloc, Settings::standard())?;
+        let line = proxy.open_line(&Setting::first(alloc)?)?;
         Ok(Proxying {
             alloc,
-            proxy: Proxy::new(alloc, Settings::standard())?,
+            proxy,
+            line,
             seats: Vec::new(alloc),
-            gone: Vec::new(alloc),
+            leaving: Vec::new(alloc),
             sent: Vec::new(alloc),
             told: Vec::new(alloc),
             takes: MOST,
@@ -79,14 +77,10 @@ impl Subject for Proxying {
                 lines: false,
                 ..Settings::standard()
             })?,
-            "three" => self.begin(Settings {
-                version: Version::Three,
-                answers_settings: false,
-                ..Settings::standard()
-            })?,
+            "three" => self.open_three()?,
             "enter" => self.enter(given)?,
             "own" => self.proxy.admit_own(true),
-            "prober" => self.proxy.open_prober()?,
+            "prober" => self.open_prober()?,
             "probe" => self.probe(given)?,
             "admit" => self.proxy.admit(given.as_bytes())?,
             "client" => self.hear_client(given, cut)?,
@@ -120,7 +114,23 @@ impl Proxying {
     /// Begins a proxy with these settings.
     fn begin(&mut self, settings: Settings) -> Result<()> {
         self.proxy = Proxy::new(self.alloc, settings)?;
+        self.line = self.proxy.open_line(&Setting::first(self.alloc)?)?;
         self.seats.clear();
+        self.leaving.clear();
+        Ok(())
+    }
+
+    /// `three`: opens a line in version 3.
+    fn open_three(&mut self) -> Result<()> {
+        let mut setting = Setting::first(self.alloc)?;
+        setting.version = Version::Three;
+        self.line = self.proxy.open_line(&setting)?;
+        Ok(())
+    }
+
+    /// `prober`: opens the proxy's own client that sends probes.
+    fn open_prober(&mut self) -> Result<()> {
+        let _ = self.proxy.open_prober(&mut self.line)?;
         Ok(())
     }
 
@@ -131,7 +141,7 @@ impl Proxying {
                 return Ok(place);
             }
         }
-        let client = self.proxy.open()?;
+        let client = self.proxy.open(&self.line)?;
         self.seats.push(Seat {
             number,
             client,
@@ -195,8 +205,8 @@ impl Proxying {
     fn hear_server(&mut self, given: &str, cut: Cut, said: &mut String) -> Result<()> {
         let text = bytes(self.alloc, given)?;
         for piece in pieces(self.alloc, text.as_slice(), cut)? {
-            let taken = self.proxy.from_server(piece);
-            self.proxy.settle_probes();
+            let taken = self.proxy.from_server(&mut self.line, piece);
+            self.proxy.settle_probes(&mut self.line);
             if let Err(error) = taken {
                 writeln!(said, "server: {error}")?;
                 self.is_out_of_step = error == ServerError::OutOfStep;
@@ -212,18 +222,18 @@ impl Proxying {
             .as_bytes()
             .first()
             .context("a probe without its byte")?;
-        self.proxy.probe(&[*byte; 32])?;
+        self.proxy.probe(&mut self.line, &[*byte; 32])?;
         Ok(())
     }
 
     /// `lose`: the connection to the server is lost.
     fn lose(&mut self, said: &mut String) -> Result<()> {
         if self.is_out_of_step {
-            self.proxy.lose_out_of_step()?;
+            self.proxy.lose_out_of_step(&mut self.line)?;
         } else {
-            self.proxy.lose()?;
+            self.proxy.lose(&mut self.line)?;
         }
-        self.proxy.settle_probes();
+        self.proxy.settle_probes(&mut self.line);
         self.is_out_of_step = false;
         self.takes = MOST;
         self.ask_told(said)
@@ -234,7 +244,7 @@ impl Proxying {
     fn ask_told(&mut self, said: &mut String) -> Result<()> {
         self.told.clear();
         while let Some(id) = self.proxy.next_replied() {
-            if self.proxy.is_prober(id) {
+            if self.line.is_prober(id) {
                 continue;
             }
             let mut told = 0;
@@ -293,7 +303,7 @@ impl Proxying {
 
     fn write(&mut self) -> Result<()> {
         let mut server = MemorySink::new(self.alloc, MOST, self.takes)?;
-        let _ = self.proxy.send(&mut server);
+        let _ = self.proxy.send(&self.line, &mut server);
         self.takes = self.takes.saturating_sub(server.bytes().len());
         self.sent.extend_from_slice(server.bytes())?;
         for seat in &mut self.seats {
@@ -326,7 +336,7 @@ impl Proxying {
         self.say_leaving(said)
     }
 
-    /// Prints which clients get a connection of their own. They are opened anew at their next row.
+    /// Prints which clients may leave, with the bytes of their next commands.
     fn say_leaving(&mut self, said: &mut String) -> Result<()> {
         let mut place = 0;
         while place < self.seats.len() {
@@ -334,56 +344,35 @@ impl Proxying {
                 place += 1;
                 continue;
             }
-            let Seat {
-                number,
-                client,
-                pending,
-                ..
-            } = self.seats.remove(place);
-            let Ok(departed) = self.proxy.leave(client) else {
-                bail!("a client may leave and may not");
-            };
-            let mut first = departed.rest().to_vec(self.alloc)?;
-            first.extend_from_slice(pending.as_slice())?;
-            writeln!(said, "own {number} {}", first.as_slice().escape_ascii())?;
-            self.gone.push(Gone {
-                number,
-                departed,
-                pending,
-            })?;
+            let seat = self.seats.remove(place);
+            let mut first = seat.client.rest().to_vec(self.alloc)?;
+            first.extend_from_slice(seat.pending.as_slice())?;
+            writeln!(
+                said,
+                "own {} {}",
+                seat.number,
+                first.as_slice().escape_ascii()
+            )?;
+            self.leaving.push(seat)?;
         }
         Ok(())
     }
 
-    /// `enter NUMBER COUNT TEXT`: a client that has left a proxy enters this one. It is owed the
-    /// text first, and the first bytes that it left with are dropped, as many as COUNT says.
+    /// `enter NUMBER COUNT TEXT`: a client that may leave uses the line from now on. The text is the
+    /// reply to its next command, which has as many bytes as COUNT says.
     fn enter(&mut self, given: &str) -> Result<()> {
         let (who, rest) = split(given);
         let (count, reply) = split(rest);
         let who = number(who)?;
-        let mut place = 0;
-        while place < self.gone.len() && self.gone[place].number != who {
-            place += 1;
-        }
-        if place == self.gone.len() {
-            bail!("the client has not left");
-        }
-        let Gone {
-            number: _,
-            mut departed,
-            pending,
-        } = self.gone.remove(place);
-        let count = (number(count)? as usize).min(departed.rest().len());
-        departed.skip(count);
+        let Some(place) = self.leaving.iter().position(|seat| seat.number == who) else {
+            bail!("the client is not leaving");
+        };
+        let mut seat = self.leaving.remove(place);
+        let count = (number(count)? as usize).min(seat.client.rest().len());
         let reply = bytes(self.alloc, reply)?;
-        let client = self.proxy.enter(departed, reply.as_slice())?;
-        self.seats.push(Seat {
-            number: who,
-            client,
-            got: Vec::new(self.alloc),
-            pending,
-            closing: None,
-        })?;
+        self.proxy
+            .enter(&mut seat.client, &self.line, count, reply.as_slice())?;
+        self.seats.push(seat)?;
         Ok(())
     }
 }

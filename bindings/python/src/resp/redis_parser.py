@@ -1,10 +1,8 @@
 """Parsers for redis-py that read with this package, in both protocols:
 
-    pool = redis.ConnectionPool(host="localhost", parser_class=resp.redis_parser.Parser)
-    server = redis.Redis(connection_pool=pool)
+    server = redis.Redis.from_url("redis://localhost:6379/0", parser_class=resp.redis_parser.Parser)
 
-    pool = redis.asyncio.ConnectionPool(host="localhost", parser_class=resp.redis_parser.AsyncParser)
-    server = redis.asyncio.Redis(connection_pool=pool)
+    server = redis.asyncio.Redis.from_url("redis://localhost:6379/0", parser_class=resp.redis_parser.AsyncParser)
 """
 import asyncio
 import socket

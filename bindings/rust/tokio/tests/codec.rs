@@ -1,8 +1,8 @@
 //! Frames at every cut, where their texts are, and errors.
 
 use bytes::{Bytes, BytesMut};
-use resp::{Cause, Decoder as Reader, Limits, Value, Version};
-use resp_tokio::{Codec, CodecError, Frame};
+use resp::{Cause, Decoder as Reader, Limits, QueueError, Value, Version};
+use resp_tokio::{Client, Codec, CodecError, Frame, Received, ReplyError};
 use tokio_util::codec::{Decoder, Encoder};
 
 /// Values of each kind, one after another.
@@ -124,16 +124,66 @@ fn an_input_that_ends_inside_a_value_is_an_error() {
     }
 }
 
+/// Decodes what a server sends to a client that has sent these commands.
+fn received(commands: &[&[&str]], pieces: &[&[u8]]) -> Result<Vec<Received>, CodecError> {
+    let (mut client, mut buffer, mut found) = (Client::new(&Limits::default()).unwrap(), BytesMut::new(), Vec::new());
+    for command in commands {
+        client.encode(*command, &mut BytesMut::new())?;
+    }
+    for piece in pieces {
+        buffer.extend_from_slice(piece);
+        while let Some(received) = client.decode(&mut buffer)? {
+            found.push(received);
+        }
+    }
+    assert_eq!(client.decode_eof(&mut buffer)?, None);
+    Ok(found)
+}
+
 #[test]
-fn the_version_changes_between_two_frames() {
-    let mut codec = Codec::new(Version::Two, &Limits::default()).unwrap();
-    let mut buffer = BytesMut::from(&b"*0\r\n#t\r\n"[..]);
-    assert_eq!(codec.decode(&mut buffer).unwrap(), Some(Frame::Array(Vec::new())));
-    codec.set_version(Version::Three).unwrap();
-    assert_eq!(codec.decode(&mut buffer).unwrap(), Some(Frame::Bool(true)));
-    buffer.extend_from_slice(b"$");
-    assert_eq!(codec.decode(&mut buffer).unwrap(), None);
-    assert!(codec.set_version(Version::Two).is_err());
+fn each_reply_is_read_in_its_version_at_every_cut() {
+    let text = b"*0\r\n%1\r\n+proto\r\n:3\r\n>1\r\n+note\r\n|1\r\n+a\r\n:1\r\n#t\r\n-ERR no\r\n*1\r\n-ERR in\r\n!2\r\nNO\r\n";
+    let commands: [&[&str]; 6] = [&["KEYS", "*"], &["HELLO", "3"], &["GET", "a"], &["GET", "b"], &["EXEC"], &["GET", "c"]];
+    let simple = |text: &'static str| Frame::Simple(text.into());
+    let wanted = [
+        Received::Reply(1, Ok(Frame::Array(vec![]))),
+        Received::Reply(2, Ok(Frame::Map(vec![(simple("proto"), Frame::Int(3))]))),
+        Received::Push(vec![simple("note")]),
+        Received::Reply(3, Ok(Frame::Bool(true))),
+        Received::Reply(4, Err(ReplyError("ERR no".into()))),
+        Received::Reply(5, Ok(Frame::Array(vec![Frame::Error("ERR in".into())]))),
+        Received::Reply(6, Err(ReplyError("NO".into()))),
+    ];
+    for cut in 0..=text.len() {
+        let (first, rest) = text.split_at(cut);
+        assert_eq!(received(&commands, &[first, rest]).unwrap(), wanted, "cut at {cut}");
+    }
+}
+
+#[test]
+fn after_a_refused_hello_the_version_stays() {
+    let refused = received(&[&["HELLO", "3"], &["GET", "a"]], &[b"-NOPROTO no\r\n_\r\n"]);
+    assert!(matches!(refused, Err(CodecError::Fault(fault)) if fault.cause == Cause::Version && fault.at == 0));
+}
+
+#[test]
+fn a_reply_that_no_command_asked_for_is_an_error() {
+    assert!(matches!(received(&[&["PING"]], &[b"+PONG\r\n+OK\r\n"]), Err(CodecError::Unasked)));
+}
+
+#[test]
+fn a_command_that_is_not_paired_is_not_written() {
+    let (mut client, mut sent) = (Client::new(&Limits::default()).unwrap(), BytesMut::new());
+    let error = client.encode(&["MONITOR"][..], &mut sent);
+    assert!(matches!(error, Err(CodecError::Queue(QueueError::Unpaired))));
+    let error = client.encode(&[] as &[&str], &mut sent);
+    assert!(matches!(error, Err(CodecError::Queue(QueueError::Unpaired))));
+    let limits = Limits { length: 64, ..Limits::default() };
+    let error = Client::new(&limits).unwrap().encode(&[&[b'x'; 65][..]][..], &mut sent);
+    assert!(matches!(error, Err(CodecError::Command(_))));
+    assert!(sent.is_empty());
+    client.encode(&["PING"][..], &mut sent).unwrap();
+    assert_eq!(client.decode(&mut BytesMut::from("+PONG\r\n")).unwrap(), Some(Received::Reply(1, Ok(Frame::Simple("PONG".into())))));
 }
 
 #[test]

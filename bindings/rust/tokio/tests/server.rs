@@ -1,8 +1,8 @@
 //! A client over TCP of redis-server, if it is installed.
 
-use futures_util::{SinkExt, StreamExt};
+use futures_util::{stream, SinkExt, StreamExt};
 use resp::{Limits, Version};
-use resp_tokio::{Codec, Frame};
+use resp_tokio::{Client, Frame, Received, ReplyError};
 use std::net::TcpListener;
 use std::process::{Child, Command, Stdio};
 use std::time::Duration;
@@ -38,17 +38,30 @@ fn server() -> Option<Server> {
     panic!("redis-server does not listen");
 }
 
-/// Sends these commands at once, and returns as many replies.
-async fn replies(framed: &mut Framed<TcpStream, Codec>, commands: &[&[&str]]) -> Vec<Frame> {
-    for command in commands {
-        framed.feed(*command).await.unwrap();
+/// Sends these commands at once, and returns what the server sends up to the reply to the last of them.
+async fn sent(framed: &mut Framed<TcpStream, Client>, commands: &[&[&str]]) -> Vec<Received> {
+    let last = commands.len();
+    framed.send_all(&mut stream::iter(commands.iter().map(|command| Ok(*command)))).await.unwrap();
+    let (mut found, mut replies) = (Vec::new(), 0);
+    while replies < last {
+        let received = framed.next().await.unwrap().unwrap();
+        replies += usize::from(matches!(received, Received::Reply(..)));
+        found.push(received);
     }
-    futures_util::SinkExt::<&[&str]>::flush(framed).await.unwrap();
-    let mut frames = Vec::new();
-    for _ in commands {
-        frames.push(framed.next().await.unwrap().unwrap());
-    }
-    frames
+    found
+}
+
+/// The replies without their numbers.
+fn replies(found: Vec<Received>) -> Vec<Result<Frame, ReplyError>> {
+    let reply = |received| match received {
+        Received::Reply(_, reply) => reply,
+        Received::Push(members) => panic!("{members:?}"),
+    };
+    found.into_iter().map(reply).collect()
+}
+
+fn bulk(text: &'static str) -> Frame {
+    Frame::Bulk(text.into())
 }
 
 #[test]
@@ -60,19 +73,25 @@ fn replies_of_redis_server() {
     let runtime = tokio::runtime::Builder::new_current_thread().enable_io().build().unwrap();
     runtime.block_on(async {
         let stream = TcpStream::connect(("127.0.0.1", server.port)).await.unwrap();
-        let mut framed = Framed::new(stream, Codec::new(Version::Two, &Limits::default()).unwrap());
+        let mut framed = Framed::new(stream, Client::new(&Limits::default()).unwrap());
         let value = "v".repeat(100_000);
-        let found = replies(&mut framed, &[&["SET", "k", &value], &["GET", "k"], &["INCR", "n"], &["GET", "none"]]).await;
-        assert_eq!(found[0], Frame::Simple("OK".into()));
-        assert_eq!(found[1], Frame::Bulk(value.into()));
-        assert_eq!(found[2..], [Frame::Int(1), Frame::Null]);
-        assert!(matches!(&replies(&mut framed, &[&["INCR", "k"]]).await[0], Frame::Error(_)));
+        let found = replies(sent(&mut framed, &[&["SET", "k", &value], &["GET", "k"], &["INCR", "n"], &["GET", "none"]]).await);
+        assert_eq!(found, [Ok(Frame::Simple("OK".into())), Ok(Frame::Bulk(value.into())), Ok(Frame::Int(1)), Ok(Frame::Null)]);
+        assert!(replies(sent(&mut framed, &[&["INCR", "k"]]).await)[0].is_err());
 
-        // The reply to HELLO 3 is in version 3.
-        framed.codec_mut().set_version(Version::Three).unwrap();
-        assert!(matches!(&replies(&mut framed, &[&["HELLO", "3"]]).await[0], Frame::Map(_)));
-        let found = replies(&mut framed, &[&["HSET", "h", "f", "1"], &["HGETALL", "h"], &["ZADD", "z", "1.5", "m"]]).await;
-        assert_eq!(found[1], Frame::Map(vec![(Frame::Bulk("f".into()), Frame::Bulk("1".into()))]));
-        assert_eq!(replies(&mut framed, &[&["ZSCORE", "z", "m"]]).await, [Frame::Double("1.5".into())]);
+        // The reply to HELLO 3 is in version 3, and so are those after it in the same pipeline.
+        let found = replies(sent(&mut framed, &[&["HELLO", "3"], &["HSET", "h", "f", "1"], &["HGETALL", "h"]]).await);
+        assert!(matches!(found[0], Ok(Frame::Map(_))));
+        assert_eq!(found[2], Ok(Frame::Map(vec![(bulk("f"), bulk("1"))])));
+        assert_eq!(framed.codec().version(), Version::Three);
+        let found = replies(sent(&mut framed, &[&["ZADD", "z", "1.5", "m"], &["ZSCORE", "z", "m"]]).await);
+        assert_eq!(found[1], Ok(Frame::Double("1.5".into())));
+
+        // A push answers SUBSCRIBE, so the last reply is that to PUBLISH.
+        framed.send(&["SUBSCRIBE", "c"][..]).await.unwrap();
+        let found = sent(&mut framed, &[&["PUBLISH", "c", "hello"]]).await;
+        assert_eq!(found[0], Received::Push(vec![bulk("subscribe"), bulk("c"), Frame::Int(1)]));
+        assert_eq!(found[1], Received::Push(vec![bulk("message"), bulk("c"), bulk("hello")]));
+        assert_eq!(found[2], Received::Reply(12, Ok(Frame::Int(1))));
     });
 }

@@ -1,5 +1,5 @@
-use Rattle.std.proofs.Common.{◌-◌, length}
+use Rattle.std.proofs.Common.{◌-◌}
 use Rattle.resp_proxy.proofs.error_counts.word_of.Given as goal
 
 abbrev pub decreases-loop-length : goal.decreases-loop-length
-decreases-loop-length l = length l.front - l.length
+decreases-loop-length l = l.examined - l.length

@@ -14,7 +14,7 @@ returns-in-Err-clause-taken c ready held h =
       rest = client.rest;
       is_closing = client.is_closing;
       is_leaving = client.is_leaving;
-      identity = taken.new.identity;
+      name = taken.new.name;
     }) client.route held c.args.piece.now taken.result.used taken.new.unfinished _ taken.result.end (Err c.in-Err.error) c.args.board.now taken.new.board c.requires ready h
     taken.ensures.taken (λ after begun. tt)
     (λ after refused. ended-refused taken.result.end (terms_of c.args.intake.now) c.in-Err.error after c.args.piece.now taken.result.used c.in-Err.is

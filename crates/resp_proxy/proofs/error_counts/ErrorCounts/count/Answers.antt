@@ -1,11 +1,11 @@
 use Rattle.std.proofs.Common.{rules, ◌≡◌, length, refl, arith}
 use Rattle.std.specs.Prelude.{slice_get, Some}
 use Rattle.std.proofs.lemmas.Option.{slice_get_read}
-use Rattle.resp_proxy.proofs.ErrorLemmas.{counts_errors}
+use Rattle.resp_proxy.proofs.ErrorLemmas.{counts_error}
 use Rattle.resp_proxy.proofs.error_counts.ErrorCounts.count.Goals as goal
 
 pub returns : goal.returns
 returns c =
     let rows = c.args.self.now.rows.items in
     let is : slice_get rows c.args.place ≡ Some c.index_mut.result.now = slice_get_read rows (length rows) c.args.place c.index_mut.result.now refl c.requires (search rules) in
-    counts_errors c.args.place c.args.count rows c.index_mut.result.now c.add.new.self c.requires is c.add.ensures
+    counts_error c.args.place rows c.index_mut.result.now c.add_one.new.self c.requires is c.add_one.ensures

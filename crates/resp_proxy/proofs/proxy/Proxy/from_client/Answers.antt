@@ -10,5 +10,5 @@ returns-clause-leaves c held h l =
     let client = c.args.client.now in
     let same : terms_of c.self.inside.intake ≡ c.args.self.now.terms = ap (λ (p : Proxied). p.terms) c.self.view_is in
     subst (λ terms. LeavesRightly terms c.take_in.new.client) same
-    (c.take_in.ensures.leaves c.self.invariant.commands_ready held (subst (λ terms. Holds terms client held) (sym same) h)
+    (c.take_in.ensures.leaves c.self.invariant held (subst (λ terms. Holds terms client held) (sym same) h)
     (subst (λ terms. LeavesRightly terms client) (sym same) l))
