@@ -14,7 +14,7 @@ _resp() {
     --also | --check-every | --client | --client-buffer | --client-buffer-limit | --command | --cut | --depth | \
         --drain-timeout | --items | --key | --length | --max-clients | --max-dedicated | --max-shared | --piece | \
         --pipeline | --port | --report | --server-buffer | --server-timeout | --shown | --slower | --stats-every | \
-        --timeout | --total | --user | --window) return ;;
+        --timeout | --torture | --total | --user | --window) return ;;
     esac
     case $command in
     show)
@@ -33,8 +33,8 @@ _resp() {
         options="--explain --no-explain -h --help"
         ;;
     serve)
-        options="--test-server -h --help --max-clients --drain-timeout --client-buffer --depth --length --total --items \
-            --no-streamed"
+        options="--test-server --torture -h --help --max-clients --drain-timeout --client-buffer --depth --length --total \
+            --items --no-streamed"
         ;;
     tap)
         options="--stats --stats-every --time --date --connections --json --color --utf8 --shown --show-passwords -h \

@@ -67,6 +67,7 @@ complete -c resp -n '__fish_seen_subcommand_from loop' -l no-explain -d 'Does no
 complete -c resp -n '__fish_seen_subcommand_from loop' -s h -l help -d 'Print help'
 
 complete -c resp -n '__fish_seen_subcommand_from serve' -l test-server -d 'Also serves inline commands, QUIT, SELECT, CLIENT, EXISTS, DBSIZE, FLUSHDB and FLUSHALL, in 16 databases'
+complete -c resp -n '__fish_seen_subcommand_from serve' -l torture -x -d 'Replies in other valid encodings and in pieces, which SEED decides, to test a client'
 complete -c resp -n '__fish_seen_subcommand_from serve' -s h -l help -d 'Print help'
 complete -c resp -n '__fish_seen_subcommand_from serve' -l max-clients -x -d 'Maximum clients at once, 1 to 65536'
 complete -c resp -n '__fish_seen_subcommand_from serve' -l drain-timeout -x -d 'At the end, closes the clients that are left after this time, 1ms to 24h or 0'

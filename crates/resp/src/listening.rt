@@ -116,6 +116,7 @@ fn serve<W: LiveSink>(
         most: most_clients(rt, serving.clients, SERVE),
         held: serving.held,
         drain_timeout: Duration::from_micros(serving.drain_timeout),
+        torture: (serving.torture > 0).then_some(serving.torture),
     };
     let address = listening_on(alloc, &serving.address)?;
     if serving.is_test_server {

@@ -147,7 +147,7 @@ abbrev pub HasServing : List Row → Serving → Type 0
 HasServing given serving =
     HasServeWords given serving.address_text.now serving.limits serving.clients serving.held serving.drain_timeout ×
     IsListenText serving.address_text.now serving.address ×
-    HasFlag given (codes "test-server") serving.is_test_server
+    HasFlag given (codes "test-server") serving.is_test_server × HasNumber given (codes "torture") serving.torture
 
 -- the options of `tap` that say which commands are printed
 pub record HasFilter (given : List Row) (filter : FilterOptions) : Type 0 where

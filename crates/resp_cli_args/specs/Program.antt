@@ -116,7 +116,8 @@ clients_option = range_option (codes "max-clients") (vp.Unsigned 1 65536)
 
 -- the options that only `serve` has
 abbrev pub serving_options : List Rule
-serving_options = flag_option (codes "test-server") ∷ clients_option ∷ size_option (codes "client-buffer") (codes "1M") ∷
+serving_options = flag_option (codes "test-server") ∷ number_option (codes "torture") 0 1099511627776 (codes "0") ∷
+    clients_option ∷ size_option (codes "client-buffer") (codes "1M") ∷
     time_option (codes "drain-timeout") (codes "30s") ∷ address_word (codes "address") ∷ []
 
 -- the options of `serve`

@@ -8,7 +8,9 @@ ghost use Rattle.resp_value.specs.Bounds.{Bounds};
 use crate::asked::{NothingAsked, wrong_options};
 use crate::duration::{DAY, MILLISECOND};
 use crate::listen_address::{ListenAddress, listen_of};
-use crate::options::{MOST_BYTES, bytes_of, flag_of, limits_of, most_of, pause_between, text_of};
+use crate::options::{
+    MOST_BYTES, bytes_of, flag_of, limits_of, most_of, number_of, pause_between, text_of,
+};
 use clap::ArgMatches;
 use resp_value::limits::Limits;
 
@@ -31,6 +33,8 @@ pub struct Serving<'a> {
     pub drain_timeout: u64,
     /// Whether 16 databases and more commands are served, for tests.
     pub is_test_server: bool,
+    /// The seed of other encodings of the replies and of pieces, or 0 if the replies are sent as usual.
+    pub torture: u64,
 }
 
 /// The options before the address is parsed.
@@ -55,6 +59,9 @@ pub(crate) fn serving_of<'a>(matches: &ArgMatches<'a>) -> Result<Serving<'a>, No
     let Some(is_test_server) = flag_of(matches, "test-server") else {
         return Err(wrong_options(matches));
     };
+    let Some(torture) = number_of(matches, "torture") else {
+        return Err(wrong_options(matches));
+    };
     Ok(Serving {
         address: listen_of(words.address, "ADDRESS")?,
         address_text: words.address,
@@ -63,6 +70,7 @@ pub(crate) fn serving_of<'a>(matches: &ArgMatches<'a>) -> Result<Serving<'a>, No
         held: words.held,
         drain_timeout: words.drain_timeout,
         is_test_server,
+        torture,
     })
 }
 

@@ -274,6 +274,15 @@ const SERVING: &[Parameter] = &[
         help: "Also serves inline commands, QUIT, SELECT, CLIENT,\nEXISTS, DBSIZE, FLUSHDB and FLUSHALL, in 16 databases",
         ..PLAIN
     },
+    Parameter {
+        name: "torture",
+        form: Between(0, MOST_ITEMS),
+        value_names: &["SEED"],
+        defaults: &["0"],
+        hides_defaults: true,
+        help: "Replies in other valid encodings and in pieces, which\nSEED decides, to test a client",
+        ..PLAIN
+    },
     CLIENTS,
     CLIENT_BUFFER,
     Parameter {

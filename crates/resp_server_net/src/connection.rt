@@ -2,6 +2,7 @@
 
 ghost use Rattle.std.specs.Prelude.{◌≡◌, false};
 
+use crate::torture::Torture;
 use resp_io::device::Device;
 use resp_net::non_blocking::{Input, Output};
 use resp_net::service::Next;
@@ -80,6 +81,8 @@ pub(crate) struct Connection<C> {
     /// The time at which the connection is closed if its client does not close its side before, once nothing
     /// more is sent to the client.
     pub(crate) until: Option<Duration>,
+    /// The replies in other encodings and in pieces, if they are asked for.
+    pub(crate) torture: Option<Box<Torture>>,
 }
 
 /// What is read from a client.

@@ -5,12 +5,17 @@
 //! that function states which bytes are read, which replies are written and which bytes still wait if
 //! the socket accepts no more.
 //!
+//! With a seed for `torture`, the server replies in other encodings of the same values and in pieces, for the
+//! tests of clients.
+//!
 //! The store of a [`Server`] is a hub, and that of a [`TestServer`] are 16 databases.
 #![tactic(auto)]
 
 mod connection;
+mod encodings;
 mod server;
 mod store;
+mod torture;
 
 pub use connection::{Incoming, PIECE, Rest, Room, answer};
 pub use resp_net::service::Next;

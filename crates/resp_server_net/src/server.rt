@@ -2,6 +2,7 @@
 
 use crate::connection::{Connection, Incoming, Received, Rest, Room, answer};
 use crate::store::Store;
+use crate::torture::{Left, Torture, Tortured};
 use mio::Registry;
 use resp_net::backend::Address;
 use resp_net::closing::{LINGER, close, drop_input};
@@ -52,6 +53,8 @@ pub struct ServerSettings {
     pub held: usize,
     /// The time after which a server that drains closes the clients that are still open.
     pub drain_timeout: Duration,
+    /// The seed of other encodings and of pieces, if clients are tested with these.
+    pub torture: Option<u64>,
 }
 
 /// Runs the commands of all connections in one store.
@@ -62,6 +65,10 @@ struct Replies<T> {
     drain: Drain,
     /// The times at which the connections of clients to which nothing more is sent are closed.
     lingering: Deadlines,
+    /// The times at which pauses between two pieces end.
+    pauses: Deadlines,
+    /// The seed of other encodings and of pieces, if clients are tested with these.
+    torture: Option<u64>,
     /// The time of this turn of the loop.
     now: Duration,
 }
@@ -96,6 +103,8 @@ impl<C: Drop, T: Store<C> + Drop> StoreServer<C, T> {
                 room: Room::new(alloc, settings.held),
                 drain: Drain::new(rt, settings.drain_timeout),
                 lingering: Deadlines::new(alloc),
+                pauses: Deadlines::new(alloc),
+                torture: settings.torture,
                 now: Duration::from_millis(0),
             },
         })
@@ -125,8 +134,20 @@ impl<C: Drop, T: Store<C> + Drop> StoreServer<C, T> {
 }
 
 impl<T> Replies<T> {
+    /// Returns the torture of a new client, if clients are tortured.
+    fn torture_of_client(&self) -> io::Result<Option<Box<Torture>>> {
+        let Some(seed) = self.torture else {
+            return Ok(None);
+        };
+        let alloc = self.room.alloc;
+        match Box::new(alloc, Torture::new(alloc, seed)) {
+            Ok(torture) => Ok(Some(torture)),
+            Err(_) => Err(ErrorKind::OutOfMemory.into()),
+        }
+    }
+
     /// Runs the commands of a client, and writes the replies.
-    fn visit<C: Drop>(&mut self, connection: &mut Connection<C>) -> Next
+    fn visit<C: Drop>(&mut self, clock: &impl Clock, connection: &mut Connection<C>) -> Next
     where
         T: Store<C>,
     {
@@ -143,9 +164,29 @@ impl<T> Replies<T> {
         if self.drain.has_begun() {
             connection.incoming = Incoming::Shut;
         }
+        let next = match connection.torture.take() {
+            Some(torture) => {
+                let mut torture = torture;
+                let next = self.answer_tortured(clock, connection, &mut torture);
+                connection.torture = Some(torture);
+                next
+            }
+            None => self.answer(connection),
+        };
+        match next {
+            Next::Close => self.linger(connection),
+            Next::Wait | Next::Again => next,
+        }
+    }
+
+    /// Runs the commands of a client, and writes the replies as they are.
+    fn answer<C: Drop>(&mut self, connection: &mut Connection<C>) -> Next
+    where
+        T: Store<C>,
+    {
         let received = Received::new(&connection.stream, connection.incoming);
         let may_have_ended = received.may_have_ended();
-        let next = answer(
+        answer(
             received,
             &connection.stream,
             &mut self.store,
@@ -153,10 +194,48 @@ impl<T> Replies<T> {
             &mut self.room,
             &mut connection.rest,
             may_have_ended,
-        );
-        match next {
-            Next::Close => self.linger(connection),
-            Next::Wait | Next::Again => next,
+        )
+    }
+
+    /// Runs the commands of a client if no bytes wait for it, and writes the next piece of the replies.
+    fn answer_tortured<C: Drop>(
+        &mut self,
+        clock: &impl Clock,
+        connection: &mut Connection<C>,
+        torture: &mut Torture,
+    ) -> Next
+    where
+        T: Store<C>,
+    {
+        torture.pieces.look(self.now);
+        let mut next = Next::Wait;
+        if !torture.is_busy() && !torture.is_closing {
+            let received = Received::new(&connection.stream, connection.incoming);
+            let may_have_ended = received.may_have_ended();
+            let tortured = Tortured {
+                torture: &mut *torture,
+            };
+            next = answer(
+                received,
+                tortured,
+                &mut self.store,
+                &mut connection.client,
+                &mut self.room,
+                &mut connection.rest,
+                may_have_ended,
+            );
+            torture.is_closing = next == Next::Close;
+        }
+        match torture.send(&connection.stream, self.now) {
+            Left::Failed => Next::Close,
+            Left::Nothing if torture.is_closing => Next::Close,
+            Left::Nothing => next,
+            Left::Later => {
+                let place = connection.place;
+                torture
+                    .pieces
+                    .settle(clock, self.now, place, &mut self.pauses, Next::Wait)
+            }
         }
     }
 
@@ -184,6 +263,7 @@ impl<R: Files + Clock + Alloc, C: Drop, T: Store<C>> Service<Connection<C>>
     ) -> io::Result<Connection<C>> {
         let mut stream = client;
         register(&mut stream, registry, tokens.client)?;
+        let torture = self.replies.torture_of_client()?;
         let client = self.replies.store.admit().ok_or(ErrorKind::OutOfMemory)?;
         self.replies.drain.note_place(tokens.place);
         Ok(Connection {
@@ -193,6 +273,7 @@ impl<R: Files + Clock + Alloc, C: Drop, T: Store<C>> Service<Connection<C>>
             rest: Rest::new(self.replies.room.alloc),
             incoming: Incoming::Open,
             until: None,
+            torture,
         })
     }
 
@@ -213,7 +294,7 @@ impl<R: Files + Clock + Alloc, C: Drop, T: Store<C>> Service<Connection<C>>
     }
 
     fn visit(&mut self, connection: &mut Connection<C>, _registry: &Registry) -> Next {
-        self.replies.visit(connection)
+        self.replies.visit(self.rt, connection)
     }
 
     fn close(&mut self, connection: Connection<C>) {
@@ -228,10 +309,11 @@ impl<R: Files + Clock + Alloc, C: Drop, T: Store<C>> Service<Connection<C>>
 
     fn patience(&self) -> Option<Duration> {
         let now = self.replies.now;
-        shorter(
+        let of_ends = shorter(
             self.replies.drain.patience(now),
             self.replies.lingering.patience(now),
-        )
+        );
+        shorter(of_ends, self.replies.pauses.patience(now))
     }
 
     fn work(&mut self, _registry: &Registry) -> io::Result<()> {
@@ -242,9 +324,12 @@ impl<R: Files + Clock + Alloc, C: Drop, T: Store<C>> Service<Connection<C>>
 
     fn next_due(&mut self) -> Option<usize> {
         let now = self.replies.now;
-        match self.replies.drain.next_place() {
+        if let Some(place) = self.replies.drain.next_place() {
+            return Some(place);
+        }
+        match self.replies.lingering.next_place(now) {
             Some(place) => Some(place),
-            None => self.replies.lingering.next_place(now),
+            None => self.replies.pauses.next_place(now),
         }
     }
 }

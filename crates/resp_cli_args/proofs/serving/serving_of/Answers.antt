@@ -12,3 +12,6 @@ returns-in_err-listen_of-clause-err c =
 
 pub returns-in_default-flag_of-clause-err : goal.returns-in_default-flag_of-clause-err
 returns-in_default-flag_of-clause-err c = λ serving has. c.in_default-flag_of.ensures.none _ has.2
+
+pub returns-in_default-number_of-clause-err : goal.returns-in_default-number_of-clause-err
+returns-in_default-number_of-clause-err c = λ serving has. c.in_default-number_of.ensures.none _ has.3
