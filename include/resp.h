@@ -158,7 +158,7 @@ enum resp_kind {
 enum resp_text {
     RESP_TEXT_SIMPLE = 0,
     RESP_TEXT_ERROR = 1,
-    /* A double, as the text that was received. Its text is not checked to be a number. */
+    /* A double, as the text that was received: a number, `inf`, `-inf`, `nan` or `-nan`. */
     RESP_TEXT_DOUBLE = 2,
     RESP_TEXT_BULK = 3,
     RESP_TEXT_BULK_ERROR = 4,
@@ -709,9 +709,10 @@ uint32_t resp_write_null(uint8_t *room, size_t length, uint32_t version, size_t 
 uint32_t resp_write_bool(uint8_t *room, size_t length, bool truth, size_t *size);
 
 /* Write a simple string, an error, and a double, from a text of `count` bytes. The text of a double
- * is not checked to be a number. Version 2 has no doubles.
+ * is a number such as `-1.5e3`, `inf`, `-inf`, `nan` or `-nan`. Version 2 has no doubles.
  *
- * Errors: RESP_CAUSE_BAD_LINE if the text contains CR or LF. */
+ * Errors: RESP_CAUSE_BAD_LINE if the text of a simple string or an error contains CR or LF.
+ * RESP_CAUSE_BAD_DIGITS if the text of a double is none of these. */
 uint32_t resp_write_simple(uint8_t *room, size_t length, const uint8_t *text, size_t count, size_t *size);
 uint32_t resp_write_error(uint8_t *room, size_t length, const uint8_t *text, size_t count, size_t *size);
 uint32_t resp_write_double(uint8_t *room, size_t length, const uint8_t *text, size_t count, size_t *size);

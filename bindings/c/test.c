@@ -375,7 +375,7 @@ static const struct written WRITTEN[] = {
     {write_no_words, "*0\r\n", RESP_OK},
     {write_lf, "", RESP_CAUSE_BAD_LINE},
     {write_cr, "", RESP_CAUSE_BAD_LINE},
-    {write_double_lf, "", RESP_CAUSE_BAD_LINE},
+    {write_double_lf, "", RESP_CAUSE_BAD_DIGITS},
     {write_no_digits, "", RESP_CAUSE_BAD_DIGITS},
     {write_no_digit, "", RESP_CAUSE_BAD_DIGITS},
     {write_leading_zero, "", RESP_CAUSE_BAD_DIGITS},

@@ -211,45 +211,13 @@ static inline bool add_string(struct reader *reader, int type, char *start, size
     return keep(reader, task, fn && fn->createString ? fn->createString(task, start, length) : kind(task));
 }
 
-static bool is_digit(char byte) { return byte >= '0' && byte <= '9'; }
-
-/* Returns whether a text that a NUL ends is a double of the published grammar: an optional sign and digits, with an optional
- * fraction and exponent, or `inf`, `-inf` or `nan`. `-nan` is one too: redis-server 7.0 writes it. strtod reads more, such as
- * `.5`, `0x1p3` and `nan(1)`. */
-static bool is_double(const char *text) {
-    const char *named = text + (*text == '-');
-    if (!strcmp(named, "inf") || !strcmp(named, "nan"))
-        return true;
-    text += *text == '+' || *text == '-';
-    if (!is_digit(*text))
-        return false;
-    while (is_digit(*text))
-        text++;
-    if (*text == '.') {
-        if (!is_digit(*++text))
-            return false;
-        while (is_digit(*text))
-            text++;
-    }
-    if (*text != 'e' && *text != 'E')
-        return !*text;
-    text += 1 + (text[1] == '+' || text[1] == '-');
-    if (!is_digit(*text))
-        return false;
-    while (is_digit(*text))
-        text++;
-    return !*text;
-}
-
-/* Adds a double. */
+/* Adds a double. The scanner accepts only texts of the published grammar, and `-nan`. strtod reads them all. */
 static APART bool add_double(struct reader *reader, char *start, size_t length) {
     char text[MOST_DOUBLE];
-    if (length >= sizeof text || memchr(start, '\0', length))
+    if (length >= sizeof text)
         return fail(reader, REDIS_ERR_PROTOCOL, "Bad double value");
     memcpy(text, start, length);
     text[length] = '\0';
-    if (!is_double(text))
-        return fail(reader, REDIS_ERR_PROTOCOL, "Bad double value");
 #ifdef REDIS_REPLY_DOUBLE
     redisReplyObjectFunctions *fn = reader->base.fn;
     redisReadTask *task = task_of(reader, REDIS_REPLY_DOUBLE);
@@ -468,6 +436,8 @@ static const char *syntax_error(char type, bool is_digit) {
         return "Bad bool value";
     case '(':
         return "Bad bignum value";
+    case ',':
+        return "Bad double value";
     case '$':
     case '=':
     case '!':
@@ -491,7 +461,8 @@ static bool refuse(struct reader *reader) {
     for (const struct resp_event *event = reader->events; event->kind != RESP_MORE; event++)
         taken = event->kind == RESP_DONE ? 0 : taken + event->used;
     uint8_t byte = (uint8_t)base->buf[base->pos + (size_t)(at - taken)];
-    char type = reader->is_text ? 0 : reader->type ? reader->type : base->buf[base->pos];
+    char text_type = reader->form == RESP_TEXT_DOUBLE ? ',' : 0;
+    char type = reader->is_text ? text_type : reader->type ? reader->type : base->buf[base->pos];
     char text[sizeof base->errstr];
     const char *known = NULL;
     if (cause == RESP_CAUSE_ITEMS)

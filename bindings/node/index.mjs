@@ -10,11 +10,6 @@ const [ERROR, DOUBLE, BULK_ERROR, VERBATIM, BIG] =
   ['error', 'double', 'bulk error', 'verbatim string', 'big number'].map((name) => TEXTS.indexOf(name));
 const [SET, MAP, ATTRIBUTE, PUSH] = ['set', 'map', 'attribute', 'push'].map((name) => AGGREGATES.indexOf(name));
 
-// The number of the error Syntax, and the texts of doubles.
-const SYNTAX = 1;
-const DOUBLE_TEXT = /^(?:[+-]?\d+(?:\.\d+)?(?:[eE][+-]?\d+)?|-?inf|-?nan)$/;
-
-
 /** An error that the server replied. */
 export class ErrorReply extends Error {
   constructor(message) {
@@ -154,9 +149,8 @@ export class Reader {
     return integerOf(low, high);
   }
 
-  // A text that is no double of the published grammar breaks the protocol. redis-server 7.0 writes `-nan`.
+  // The scanner accepts only texts of the published grammar, and `-nan`, whose number is NaN too.
   double(text) {
-    if (!DOUBLE_TEXT.test(text)) this.failure = new RespError(SYNTAX);
     return { inf: Infinity, '-inf': -Infinity }[text] ?? Number(text);
   }
 

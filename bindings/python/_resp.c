@@ -69,12 +69,10 @@ static PyObject *refuse(struct reader *reader, uint32_t cause, uint64_t at) {
     return NULL;
 }
 
-/* Raises protocolError for a double that is no number, or for a big number that is too long. The byte isn't known. */
+/* Raises protocolError for a big number that is too long. The byte isn't known. */
 static APART PyObject *refuse_number(struct reader *reader) {
-    const char *bad = reader->values.bad;
-    PyObject *error = PyObject_CallFunction(reader->protocol_error, "s",
-                                            strcmp(bad, "Length") ? "Syntax in a double" : "Length of a big number");
-    PyObject *cause = error ? PyUnicode_FromString(bad) : NULL;
+    PyObject *error = PyObject_CallFunction(reader->protocol_error, "s", "Length of a big number");
+    PyObject *cause = error ? PyUnicode_FromString("Length") : NULL;
     if (cause && !PyObject_SetAttrString(error, "cause", cause) && !PyObject_SetAttrString(error, "at", Py_None))
         PyErr_SetObject((PyObject *)Py_TYPE(error), error);
     Py_XDECREF(cause);
@@ -271,7 +269,7 @@ static inline PyObject *read_on(struct reader *reader, bool pairs) {
             reader->next = event + 1;
             reader->pos = (size_t)(at - reader->fed) + event->used;
             reader->is_begun = false;
-            if (reader->values.bad) {
+            if (reader->values.is_too_long) {
                 forget(&reader->values);
                 return refuse_number(reader);
             }
@@ -314,7 +312,7 @@ static PyObject *reader_gets(struct reader *reader, PyObject *const *args, Py_ss
     if (count > 1 || decodes < 0 || !is_ready(reader))
         return NULL;
     reader->values.reads_now = decodes ? reader->values.reads : AS_BYTES;
-    if (reader->values.bad)
+    if (reader->values.is_too_long)
         return refuse_number(reader);
     reader->is_reading = true;
     PyObject *reply = reader->pairs ? read_paired(reader) : read_reply(reader);
@@ -584,7 +582,7 @@ static void begin(struct reader *reader, const struct words *given) {
     reader->limits = given->limits;
     reader->maxbuf = MOST_KEPT;
     reader->values.lists_sets = given->lists_sets;
-    reader->values.bad = NULL;
+    reader->values.is_too_long = false;
     drop_fed(reader);
     begin_scanning(reader, given->version);
     Py_INCREF(given->protocol_error);

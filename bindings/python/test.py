@@ -565,9 +565,10 @@ class Rows(unittest.TestCase):
                              (b"inf", math.inf), (b"-inf", -math.inf), (b"1e400", math.inf)]:
             for pieces in cuts(b"," + text + b"\r\n:1\r\n"):
                 self.assertEqual(replies(reader(protocol=3), pieces), [wanted, 1], text)
-        for text in [b"abc", b"1_0", b" 12", b"12 ", b"1,5", b"", b".", b"-", b"1e", b"1e+", b"e1", b"0x1p3", b"infinity",
-                     b"1.5.2", b".5", b"1.", b"-.5", b"+inf", b"+nan", b"nan(1)", b"\xc2\xb2", b"1\0"]:
-            for given in (b":1\r\n," + text + b"\r\n:2\r\n", b":1\r\n*2\r\n," + text + b"\r\n:3\r\n:2\r\n"):
+        for text, at in [(b"abc", 1), (b"1_0", 2), (b" 12", 1), (b"12 ", 3), (b"1,5", 2), (b"", 1), (b".", 1), (b"-", 2), (b"1e", 3),
+                         (b"1e+", 4), (b"e1", 1), (b"0x1p3", 2), (b"infinity", 4), (b"1.5.2", 4), (b".5", 1), (b"1.", 3),
+                         (b"-.5", 2), (b"+inf", 2), (b"+nan", 2), (b"nan(1)", 4), (b"\xc2\xb2", 1), (b"1\0", 2)]:
+            for given, before in ((b":1\r\n," + text + b"\r\n:2\r\n", 0), (b":1\r\n*2\r\n," + text + b"\r\n:3\r\n:2\r\n", 4)):
                 for pieces in cuts(given):
                     broken, said = reader(protocol=3), []
                     for piece in pieces:
@@ -579,7 +580,7 @@ class Rows(unittest.TestCase):
                     for _ in range(2):
                         with self.assertRaises(resp.ProtocolError) as raised:
                             broken.gets()
-                        self.assertEqual((raised.exception.cause, raised.exception.at), ("Syntax", None))
+                        self.assertEqual((raised.exception.cause, raised.exception.at), ("Syntax", before + at))
 
     def test_a_small_reader(self):
         """Until the first bytes arrive a reader needs little memory."""

@@ -73,9 +73,8 @@ struct values {
     enum reading reads, reads_now;
     /* Whether sets become lists. */
     bool lists_sets;
-    /* The name of the error of a double that is no number or of a big number that is too long, or NULL. After it no more
-     * replies are read. */
-    const char *bad;
+    /* Whether a big number is too long. After it no more replies are read. */
+    bool is_too_long;
 };
 
 /* Replaces a value by another. Steals the reference to the new one. */
@@ -164,48 +163,8 @@ static PyObject *error_of(struct values *values, const char *start, Py_ssize_t l
     return value;
 }
 
-/* Returns the first byte that is no digit. */
-static const char *digits(const char *at, const char *end) {
-    while (at < end && *at >= '0' && *at <= '9')
-        at++;
-    return at;
-}
-
-/* Returns whether a text is a double of the published grammar: an optional sign and digits, with an optional fraction and
- * exponent, or `inf`, `-inf` or `nan`. `-nan` is one too: redis-server 7.0 writes it. Python's float() accepts more, such as
- * `1_0`, `.5` and spaces. */
-static bool is_double(const char *at, const char *end) {
-    if (at < end && *at == '-' && (end - at == 4) && (!memcmp(at, "-inf", 4) || !memcmp(at, "-nan", 4)))
-        return true;
-    if (end - at == 3 && (!memcmp(at, "inf", 3) || !memcmp(at, "nan", 3)))
-        return true;
-    if (at < end && (*at == '+' || *at == '-'))
-        at++;
-    const char *whole = digits(at, end);
-    if (whole == at)
-        return false;
-    if (whole < end && *whole == '.') {
-        at = whole + 1;
-        whole = digits(at, end);
-        if (whole == at)
-            return false;
-    }
-    if (whole == end)
-        return true;
-    if (*whole != 'e' && *whole != 'E')
-        return false;
-    at = whole + 1;
-    if (at < end && (*at == '+' || *at == '-'))
-        at++;
-    return at < end && digits(at, end) == end;
-}
-
-/* A text that is no double breaks the protocol: the reader raises the error once the reply has been read. */
-static PyObject *double_of(struct values *values, const char *start, Py_ssize_t length) {
-    if (!is_double(start, start + length)) {
-        values->bad = "Syntax";
-        return PyFloat_FromDouble(0);
-    }
+/* Returns a double. The scanner accepts only texts of the published grammar, and `-nan`. Python's float() reads them all. */
+static PyObject *double_of(const char *start, Py_ssize_t length) {
     PyObject *text = PyUnicode_DecodeUTF8(start, length, "strict");
     PyObject *value = text ? PyFloat_FromString(text) : NULL;
     Py_XDECREF(text);
@@ -241,7 +200,7 @@ static PyObject *with_digits(PyObject *value, const char *start, Py_ssize_t leng
  * MOST_DIGITS would take long: it is refused once the reply has been read. */
 static PyObject *big_of(struct values *values, const char *start, Py_ssize_t length) {
     if (length > MOST_DIGITS) {
-        values->bad = "Length";
+        values->is_too_long = true;
         return PyLong_FromLong(0);
     }
     PyObject *value = PyLong_FromLong(0);
@@ -256,7 +215,7 @@ static PyObject *big_of(struct values *values, const char *start, Py_ssize_t len
 static APART PyObject *other_of(struct values *values, uint32_t form, const char *start, Py_ssize_t length) {
     switch (form) {
     case RESP_TEXT_DOUBLE:
-        return double_of(values, start, length);
+        return double_of(start, length);
     case RESP_TEXT_BIG:
         return big_of(values, start, length);
     default:

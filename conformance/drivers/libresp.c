@@ -1,6 +1,5 @@
 /* This project's library for C: resp_scanner_step.
  * ours
- * known: double/bad-
  * needs: cc {C}/lib/libresp.a
  * make: cc -O1 -I{C}/include -o {OUT} {FILE} {C}/lib/libresp.a
  * run: {OUT} */

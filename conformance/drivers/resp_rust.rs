@@ -1,6 +1,5 @@
 /* This project's crate for Rust: its Decoder.
  * ours
- * known: double/bad-
  * needs: rustc {C}/lib/libresp.a
  * make: rustc --edition 2021 -O --crate-type rlib --crate-name resp -L native={C}/lib -l static=resp --out-dir {OUT}.d {TOP}/bindings/rust/src/lib.rs
  * make: rustc --edition 2021 -O --extern resp={OUT}.d/libresp.rlib -L native={C}/lib -o {OUT} {FILE}

@@ -1,7 +1,6 @@
 #!/usr/bin/env python3
 """This project's program: show --json.
 ours
-known: double/bad-
 needs: {TOP}/crates/resp/out/resp
 run: /usr/bin/python3 {FILE} {TOP}/resp
 """

@@ -18,7 +18,7 @@ pub enum Value {
     Simple(Vec<u8>),
     /// A simple error, without CR and LF.
     Error(Vec<u8>),
-    /// A double, as its text. Nothing checks that it is a number.
+    /// A double, as its text: a number, `inf`, `-inf`, `nan` or `-nan`.
     Double(Vec<u8>),
     /// A bulk string.
     Bulk(Vec<u8>),
@@ -51,10 +51,10 @@ pub enum Value {
 pub enum AppendError {
     /// Version 2 does not have this value, or a value inside it.
     Version,
-    /// A simple string, an error or a double contains CR or LF.
+    /// A simple string or an error contains CR or LF.
     BadLine,
     /// The digits of a big number are empty, have another byte than digits or a leading zero, or are a
-    /// negative zero.
+    /// negative zero; or the text of a double is not one.
     BadDigits,
 }
 
@@ -63,7 +63,7 @@ impl fmt::Display for AppendError {
         f.write_str(match self {
             AppendError::Version => "version 2 does not have this value",
             AppendError::BadLine => "a line contains CR or LF",
-            AppendError::BadDigits => "these are not the digits of a big number",
+            AppendError::BadDigits => "this is not the text of a number",
         })
     }
 }

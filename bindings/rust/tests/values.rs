@@ -116,7 +116,7 @@ fn refusals() {
     for (value, wanted) in [
         (Array(vec![Int(1), Simple(bytes("a\n"))]), AppendError::BadLine),
         (Value::Error(bytes("\r")), AppendError::BadLine),
-        (Double(bytes("1\r")), AppendError::BadLine),
+        (Double(bytes("1\r")), AppendError::BadDigits),
         (bad("", false), AppendError::BadDigits),
         (bad("01", false), AppendError::BadDigits),
         (bad("0", true), AppendError::BadDigits),

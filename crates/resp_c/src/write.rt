@@ -12,6 +12,7 @@ ghost use Rattle.resp_value.specs.Canonical.{canonical_text};
 ghost use Rattle.resp_value.specs.Causes.{number_of};
 ghost use Rattle.resp_value.specs.Data.{scalar};
 ghost use Rattle.resp_value.specs.Data as d;
+ghost use Rattle.resp_value.specs.Doubles.{IsDouble};
 ghost use Rattle.resp_value.specs.Kinds.{kind_of};
 ghost use Rattle.resp_value.specs.Numbers.{IsDigit, IsKept};
 ghost use Rattle.resp_value.specs.declared.version.Version.{Version};
@@ -25,6 +26,7 @@ use crate::answer::{BAD_KIND, BAD_VERSION};
 use crate::number;
 use crate::room::{is_too_long, size_with, write_line, write_number, write_string};
 use resp_value::cause::Cause;
+use resp_value::double::is_double;
 use resp_value::kind::OpenKind;
 use resp_value::version::Version;
 
@@ -169,16 +171,19 @@ pub extern "C" fn resp_write_error(room: &mut [u8], text: &[u8], size: &mut usiz
     write_plain(room, b"-", text, size)
 }
 
-/// Writes a double, given as its text. Version 2 does not have doubles. Returns 60 if the text
-/// contains CR or LF. Checks nothing else of the text.
+/// Writes a double, given as its text. Version 2 does not have doubles. Returns 61 if the text is
+/// not that of a double.
 #[unsafe(no_mangle)]
 pub extern "C" fn resp_write_double(room: &mut [u8], text: &[u8], size: &mut usize) -> u32
-    ensures double { IsLine text.now → (version : Version) → Writes room.old room.new
+    ensures double { IsDouble text.now → (version : Version) → Writes room.old room.new
         (canonical_text version (scalar (d.Double text.now))) size.new result }
-    ensures bad_line { (IsLine text.now → ⊥) → (result ≡ number_of cause.BadLine) ×
+    ensures bad_digits { (IsDouble text.now → ⊥) → (result ≡ number_of cause.BadDigits) ×
         WritesNothing room.old room.new size.old size.new }
 {
-    write_plain(room, b",", text, size)
+    if !is_too_long(text) && !is_double(text) {
+        return Cause::BadDigits.number();
+    }
+    write_line(room, b",", text, size)
 }
 
 /// Returns whether the text is one or more decimal digits.

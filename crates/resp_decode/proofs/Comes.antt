@@ -175,7 +175,7 @@ leaf_comes from (line t.Error s) b last weight xs is may h light k =
 leaf_comes from (line t.Double s) b last weight xs is may h light k =
     let n : length (leaf_text (line t.Double s)) ≡ length s + 3 = omega (arith, length-append s (crlf [])) in
     text_comes e.Double from (from + 1) 1 s (last_of from (leaf_text (line t.Double s))) (from + length (leaf_text (line t.Double s))) b last weight xs h
-    (omega arith) (omega arith) (omega arith) (omega arith) (omega arith) (omega arith) is.0 may k
+    (omega arith) (omega arith) (omega arith) (omega arith) (omega arith) (omega arith) is.2 may k
 leaf_comes from (numeral t.Int sign digits) b last weight xs is may h light k =
     let n : length (leaf_text (numeral t.Int sign digits)) ≡ length (sign_text sign) + length digits + 3 =
     omega (arith, length-append (58 ∷ (sign_text sign ++ digits)) (crlf []), length-append (sign_text sign) digits) in

@@ -68,7 +68,7 @@ kept_shorter shown kind s = case (may_cut kind)
 pub content_is_kept : (shown : ℕ) (kind : TextKind) (s : List ℕ) → IsContentOf kind s → IsContentOf kind (kept_content shown kind s)
 content_is_kept shown e.Simple s h = line_front (suc shown) s h
 content_is_kept shown e.Error s h = line_front (suc shown) s h
-content_is_kept shown e.Double s h = line_front (suc shown) s h
+content_is_kept shown e.Double s h = h
 content_is_kept shown e.Bulk s h = tt
 content_is_kept shown e.BulkError s h = tt
 content_is_kept shown (e.Verbatim format) s h = h
@@ -88,23 +88,13 @@ text_is_cut shown (e.Big negative) s = refl
 pub text_lengths : (shown : ℕ) (kind : TextKind) (s : List ℕ) → cut_lengths shown (text_value kind s) ≡ longer shown (cond (may_cut kind) (length s) 0)
 text_lengths shown e.Simple s = refl
 text_lengths shown e.Error s = refl
-text_lengths shown e.Double s = refl
+text_lengths shown e.Double s = sym (longer-none shown 0 (omega arith))
 text_lengths shown e.Bulk s = refl
 text_lengths shown e.BulkError s = refl
 text_lengths shown (e.Verbatim format) s = refl
 text_lengths shown (e.Big negative) s = sym (longer-none shown 0 (omega arith))
 
--- it may be cut
-pub text_may_be_cut : (kind : ReadKind) (s : List ℕ) → IsTextOf kind s → may_cut (text_kind_of kind) ≡ true
-text_may_be_cut read.Simple s h = refl
-text_may_be_cut read.Error s h = refl
-text_may_be_cut read.Double s h = refl
-text_may_be_cut read.Bulk s h = refl
-text_may_be_cut read.BulkError s h = absurd h
-text_may_be_cut (read.Verbatim format) s h = absurd h
-text_may_be_cut (read.Big negative) s h = absurd h
-
--- and it is its content
+-- a text that is told whole is its content
 pub text_is_content : (kind : ReadKind) (s : List ℕ) → IsTextOf kind s → IsContentOf (text_kind_of kind) s
 text_is_content read.Simple s h = h
 text_is_content read.Error s h = h
@@ -180,7 +170,7 @@ scalar_is_lighter shown (d.Bool b) = omega arith
 scalar_is_lighter shown (d.Int i) = omega arith
 scalar_is_lighter shown (d.Simple s) = omega (arith, length-take (suc shown) s)
 scalar_is_lighter shown (d.Error s) = omega (arith, length-take (suc shown) s)
-scalar_is_lighter shown (d.Double s) = omega (arith, length-take (suc shown) s)
+scalar_is_lighter shown (d.Double s) = omega arith
 scalar_is_lighter shown (d.Bulk s) = omega (arith, length-take (suc shown) s)
 scalar_is_lighter shown (d.BulkError s) = omega (arith, length-take (suc shown) s)
 scalar_is_lighter shown (d.Verbatim format s) = omega (arith, length-take (suc shown) s)

@@ -10,6 +10,7 @@ use Rattle.resp_scan.specs.Kinds.{content_events, text_kind_of}
 use Rattle.resp_scan.specs.Listening.{Hears, IsTextOf, MayBeGiven, whole_text_events}
 use Rattle.resp_scan.specs.Reading.{Events}
 use Rattle.resp_scan.specs.declared.event.TextKind.{TextKind as ReadKind}
+use Rattle.resp_value.proofs.Cutting.{longer-none}
 use Rattle.resp_decode.specs.Brief.{WantMemory}
 use Rattle.resp_decode.specs.Builds.{Construction, Group, Text, built_from, nothing, text_value, with_bytes, with_event, with_events, with_text_ended, with_value}
 use Rattle.resp_decode.specs.CutBuilds.{cut_construction, cut_group, cut_text, cut_whole, kept_content, lengths_of, may_cut}
@@ -23,7 +24,7 @@ use Rattle.resp_decode.specs.declared.kept.Kept.{Kept}
 use Rattle.resp_decode.proofs.Counted.{events_weigh}
 use Rattle.resp_decode.proofs.Folds.{with_events-append}
 use Rattle.resp_decode.proofs.HeldLemmas.{content_held}
-use Rattle.resp_decode.proofs.Keeping.{IsNoByte, IsNoText, all_may_come, content_is_in_text, content_is_kept, content_may_come, event_kept, kept_is_lighter, kept_more, may_come_kept, next_kept, no_byte, put_is_cut, put_leaves_text, put_lengths, same_lengths, same_text, text_is_content, text_is_cut, text_lengths, text_may_be_cut}
+use Rattle.resp_decode.proofs.Keeping.{IsNoByte, IsNoText, all_may_come, content_is_in_text, content_is_kept, content_may_come, event_kept, kept_is_lighter, kept_more, may_come_kept, next_kept, no_byte, put_is_cut, put_leaves_text, put_lengths, same_lengths, same_text, text_is_content, text_is_cut, text_lengths}
 use Rattle.resp_decode.proofs.Taking.{brief_last, room_for, whole_text_builds}
 use Rattle.resp_decode.proofs.Values.{are_good, brief_first, brief_groups}
 
@@ -281,19 +282,16 @@ whole_text_passes shown kind bytes kept b begins whole same =
           ∙ ap (cut_construction shown) (sym (whole_text_builds kind bytes b begins.0));
     }
 
--- a text that is told whole
-pub keeps_whole_text : (old : Kept) (held : HeldParts) (lengths : Vec ℕ Global) (kind : ReadKind) (bytes kept : List ℕ) (goes_on : Bool) → IsTextOf kind bytes →
-    kept ≡ take (suc old.shown - 0) bytes → (goes_on ≡ true → lengths.items ≡ old.lengths.items ++ longer old.shown (length bytes)) →
+-- what is kept of a text that is told whole
+keeps_kept_text : (old : Kept) (held : HeldParts) (lengths : Vec ℕ Global) (kind : ReadKind) (bytes kept : List ℕ) (goes_on : Bool) → IsTextOf kind bytes →
+    kept ≡ kept_content old.shown (text_kind_of kind) bytes → (goes_on ≡ true →
+    lengths.items ≡ old.lengths.items ++ longer old.shown (cond (may_cut (text_kind_of kind)) (length bytes) 0)) →
     TakesInWhereFit old.held held (whole_text_events kind kept) goes_on →
     KeepsMore old (record old { held = held; lengths = lengths }) (whole_text_events kind bytes) goes_on
-keeps_whole_text old held lengths kind bytes kept goes_on is_text is_kept added takes b k may small goes =
+keeps_kept_text old held lengths kind bytes kept goes_on is_text same added takes b k may small goes =
     let shown = old.shown in
     let read = text_kind_of kind in
     let x = text_value read bytes in
-    let cuts : may_cut read ≡ true = text_may_be_cut kind bytes is_text in
-    let whole_room : suc shown - 0 ≡ suc shown = omega arith in
-    let same : kept ≡ kept_content shown read bytes =
-    is_kept ∙ ap (λ n. take n bytes) whole_room ∙ ap (λ z. cond z (kept_part shown bytes) bytes) (sym cuts) in
     let passes = whole_text_passes shown read bytes kept b may.0 (text_is_content kind bytes is_text) same in
     let holds = holds_kept shown old.held held (whole_text_events kind kept) (whole_text_events kind bytes) b goes_on
     (record { holds = k.holds; weighs = k.weighs }) takes passes small goes in
@@ -304,10 +302,33 @@ keeps_whole_text old held lengths kind bytes kept goes_on is_text is_kept added 
       holds = holds.holds;
       weighs = holds.weighs;
       lengths = added goes
-          ∙ ap (λ ns. ns ++ longer shown (length bytes)) k.lengths
-          ∙ ap (λ z. lengths_of shown b ++ longer shown (cond z (length bytes) 0)) (sym cuts)
+          ∙ ap (λ ns. ns ++ longer shown (cond (may_cut read) (length bytes) 0)) k.lengths
           ∙ ap (λ ns. lengths_of shown b ++ ns) (sym (text_lengths shown read bytes))
           ∙ sym (put_lengths shown x b may.0.1)
           ∙ sym (ap (lengths_of shown) built);
       counts = subst (CountsText (record old { held = held; lengths = lengths })) (sym rests) tt;
     }
+
+-- the first bytes of a text that is told whole
+pub keeps_whole_text : (old : Kept) (held : HeldParts) (lengths : Vec ℕ Global) (kind : ReadKind) (bytes kept : List ℕ) (goes_on : Bool) → IsTextOf kind bytes →
+    may_cut (text_kind_of kind) ≡ true → kept ≡ take (suc old.shown - 0) bytes →
+    (goes_on ≡ true → lengths.items ≡ old.lengths.items ++ longer old.shown (length bytes)) →
+    TakesInWhereFit old.held held (whole_text_events kind kept) goes_on →
+    KeepsMore old (record old { held = held; lengths = lengths }) (whole_text_events kind bytes) goes_on
+keeps_whole_text old held lengths kind bytes kept goes_on is_text cuts is_kept added takes =
+    let shown = old.shown in
+    let whole_room : suc shown - 0 ≡ suc shown = omega arith in
+    keeps_kept_text old held lengths kind bytes kept goes_on is_text
+    (is_kept ∙ ap (λ n. take n bytes) whole_room ∙ ap (λ z. cond z (kept_part shown bytes) bytes) (sym cuts))
+    (λ goes. added goes ∙ ap (λ z. old.lengths.items ++ longer shown (cond z (length bytes) 0)) (sym cuts)) takes
+
+-- all bytes of a text that is told whole
+pub keeps_all_of_text : (old : Kept) (held : HeldParts) (kind : ReadKind) (bytes : List ℕ) (goes_on : Bool) → IsTextOf kind bytes →
+    may_cut (text_kind_of kind) ≡ false → TakesInWhereFit old.held held (whole_text_events kind bytes) goes_on →
+    KeepsMore old (record old { held = held }) (whole_text_events kind bytes) goes_on
+keeps_all_of_text old held kind bytes goes_on is_text whole takes =
+    let shown = old.shown in
+    keeps_kept_text old held old.lengths kind bytes bytes goes_on is_text
+    (ap (λ z. cond z (kept_part shown bytes) bytes) (sym whole))
+    (λ goes. sym (append-nil old.lengths.items) ∙ ap (λ ns. old.lengths.items ++ ns) (sym (longer-none shown 0 (omega arith))) ∙
+    ap (λ z. old.lengths.items ++ longer shown (cond z (length bytes) 0)) (sym whole)) takes

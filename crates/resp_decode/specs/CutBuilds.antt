@@ -8,6 +8,7 @@ use Rattle.resp_decode.specs.Builds.{Group, Text, Construction}
 
 -- whether only the first bytes of a text of this kind are kept; the digits of a big number are all kept
 abbrev pub may_cut : TextKind → Bool
+may_cut e.Double = false
 may_cut (e.Big negative) = false
 may_cut _ = true
 

@@ -1,5 +1,5 @@
 -- The contracts of a decoder that keeps the first bytes of each text, in terms of texts and values.
-use Rattle.std.specs.Prelude.{◌≡◌, ℕ, List, [], None, Some, Result, IfOk}
+use Rattle.std.specs.Prelude.{◌≡◌, ℕ, List, []}
 use Rattle.resp_value.specs.Data.{Datum}
 use Rattle.resp_value.specs.Rules.{Rules}
 use Rattle.resp_value.specs.Spellings.{IsSpelling}

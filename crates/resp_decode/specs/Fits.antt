@@ -1,6 +1,7 @@
 -- The events that may come next, of any tree.
 use Rattle.std.specs.Prelude.{◌≡◌, ℕ, ◌+◌, Option, None, Some, List, [], ◌∷◌, length}
 use Rattle.resp_value.specs.Bytes.{IsLine}
+use Rattle.resp_value.specs.Doubles.{IsDouble}
 use Rattle.resp_value.specs.Numbers.{IsKept, zero_if_none}
 use Rattle.resp_value.specs.Data.{Kind, Array, Set, Map, Attr, Push}
 use Rattle.resp_fronts.specs.Events.{Event, TextKind}
@@ -12,7 +13,7 @@ use Rattle.resp_decode.specs.Weights.{format_weight}
 abbrev pub IsContentOf : TextKind → List ℕ → Type 0
 IsContentOf e.Simple s = IsLine s
 IsContentOf e.Error s = IsLine s
-IsContentOf e.Double s = IsLine s
+IsContentOf e.Double s = IsDouble s
 IsContentOf e.Bulk s = Unit {0}
 IsContentOf e.BulkError s = Unit {0}
 IsContentOf (e.Verbatim format) s = length format ≡ 3

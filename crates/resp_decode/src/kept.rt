@@ -148,20 +148,23 @@ impl Listener for Kept {
 
     #[inline]
     fn whole_text(&mut self, kind: TextKind, bytes: &[u8]) -> bool {
+        if !may_cut(kind) {
+            return self.held.take_text(kind, bytes);
+        }
         let kept = kept_bytes(bytes, 0, self.shown);
         keep_length(&mut self.lengths, bytes.len() as u64, self.shown)
             && self.held.take_text(kind, kept)
     }
 }
 
-/// Returns whether only the first bytes of a text of this kind are kept. All digits of a big number
-/// are kept.
+/// Returns whether only the first bytes of a text of this kind are kept. Doubles and the digits of
+/// big numbers are kept whole.
 #[inline]
 fn may_cut(kind: TextKind) -> bool
     ensures { result ≡ may_cut (text_kind_of kind) }
 {
     match kind {
-        TextKind::Big { .. } => false,
+        TextKind::Double | TextKind::Big { .. } => false,
         _ => true,
     }
 }

@@ -12,6 +12,7 @@ ghost use Rattle.resp_decode.specs.Weights.{format_weight};
 use resp_scan::event::TextKind;
 use resp_value::content::Content;
 use resp_value::digits::Digits;
+use resp_value::double::Double;
 use resp_value::line::Line;
 use resp_value::value::Value;
 use std::alloc::{AllocError, Global};
@@ -92,8 +93,8 @@ impl PartialText {
                 Ok(line) => Some(Value::Error(line)),
                 Err(_) => None,
             },
-            TextKind::Double => match Line::new(bytes) {
-                Ok(line) => Some(Value::Double(line)),
+            TextKind::Double => match Double::new(bytes) {
+                Ok(double) => Some(Value::Double(double)),
                 Err(_) => None,
             },
             TextKind::Bulk => Some(Value::Bulk(Content::new(bytes))),
@@ -110,8 +111,8 @@ impl PartialText {
     }
 }
 
-/// Returns the value of a complete text that consists of its content alone. It does not search a
-/// line for CR and LF again.
+/// Returns the value of a complete text that consists of its content alone. It does not read the
+/// bytes of a line or a double again.
 #[inline(always)]
 pub(crate) fn content_value(kind: TextKind, bytes: Vec<u8>) -> Value
     requires content_alone { IsContentAlone (text_kind_of kind) }
@@ -121,7 +122,7 @@ pub(crate) fn content_value(kind: TextKind, bytes: Vec<u8>) -> Value
     match kind {
         TextKind::Simple => Value::Simple(Line::of_plain(bytes)),
         TextKind::Error => Value::Error(Line::of_plain(bytes)),
-        TextKind::Double => Value::Double(Line::of_plain(bytes)),
+        TextKind::Double => Value::Double(Double::of_text(bytes)),
         TextKind::BulkError => Value::BulkError(Content::new(bytes)),
         _ => Value::Bulk(Content::new(bytes)),
     }

@@ -4,6 +4,7 @@ use Rattle.std.specs.Bool.{MatchBool}
 use Rattle.resp_value.specs.Bytes.{IsLine, crlf}
 use Rattle.resp_value.specs.LocalRules.{LeafKeeps}
 use Rattle.resp_value.specs.Numbers.{Unsigned, Plus, Minus, IsNumber, number}
+use Rattle.resp_value.specs.Doubles.{IsDouble}
 use Rattle.resp_value.specs.Rules.{Rules, WithinItems, NoDouble, InRange, WithinLength, IsLeafInTwo}
 use Rattle.resp_value.specs.Trees.{Leaf, Simple, Error, Double, Int, Big, Bulk, BulkError, Verbatim, BulkNull, ArrayNull, PlainNull, line, numeral, null, truth, string, chunked, IsLeaf, leaf_line, leaf_rest, leaf_text, truth_line}
 use Rattle.resp_value.proofs.FirstBytes.{leaf_begins, leaf_byte}
@@ -162,11 +163,11 @@ no_error r level buffer at first no_line has =
     a_line r 45 s at buffer has.rest is.0 (keeps WithinLength (omega arith)) e no_line
 
 -- a double
-pub no_double : (r : Rules) (level : ℕ) (buffer : List ℕ) (at : ℕ) → get_or buffer at 0 ≡ 44 → NoLine r.limits.length (drop (at + 1) buffer) →
-    HasLeaf r level buffer at → ⊥
-no_double r level buffer at first no_line has =
+pub no_double : (r : Rules) (level : ℕ) (buffer : List ℕ) (at : ℕ) → get_or buffer at 0 ≡ 44 → ((text rest : List ℕ) → IsDouble text →
+    length text ≤ r.limits.length → drop (at + 1) buffer ≡ text ++ crlf rest → ⊥) → HasLeaf r level buffer at → ⊥
+no_double r level buffer at first none has =
     let (s, (is, keeps, e)) = leaf_at r level buffer at 44 first has in
-    a_line r 44 s at buffer has.rest is.0 (keeps WithinLength (omega arith)) e no_line
+    none s has.rest is.2 (keeps WithinLength (omega arith)) (after_first 44 s at buffer has.rest e)
 
 -- a double, which the limits do not allow
 pub no_double_allowed : (r : Rules) (level : ℕ) (buffer : List ℕ) (at : ℕ) → get_or buffer at 0 ≡ 44 → r.limits.doubles ≡ false → HasLeaf r level buffer at → ⊥

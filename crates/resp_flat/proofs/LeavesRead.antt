@@ -1,16 +1,19 @@
 -- The leaves that are read.
-use Rattle.std.proofs.Common.{◌≡◌, ℕ, zero, suc, ℤ, pos, drop, take, get_or, ◌+◌, ◌-◌, ◌<◌, ◌≤◌, Bool, false, inl, inr, List, [], ◌∷◌, ◌++◌, length, refl, sym, ap, subst, ◌∙◌, arith, append_assoc, length-append, length-drop}
+use Rattle.std.proofs.Common.{◌≡◌, ℕ, zero, suc, ℤ, pos, drop, take, get_or, ◌+◌, ◌-◌, ◌<◌, ◌≤◌, Bool, true, false, inl, inr, List, [], ◌∷◌, ◌++◌, length, refl, sym, ap, subst, ◌∙◌, arith, append_assoc, length-append, length-drop}
 use Rattle.std.proofs.Math.Seq.{take-append_seam}
 use Rattle.resp_value.specs.Bytes.{IsByte, IsText, crlf}
 use Rattle.resp_value.specs.LocalRules.{LeafKeeps, LeafMeets}
 use Rattle.resp_value.specs.Numbers.{Unsigned, Minus}
 use Rattle.std.proofs.Common.{neg_ℤ}
 use Rattle.resp_value.specs.declared.version.Version.TheVariants.{Two}
+use Rattle.resp_fronts.specs.Tokens.{HasAnyText}
+use Rattle.resp_fronts.proofs.FirstLines.TextLines.{any_number}
 use Rattle.resp_fronts.proofs.FrameLaws.KeptNodes.{at_each_rule, leaf_keeps}
 use Rattle.std.proofs.lemmas.List.{drop-drop, length-take-le, take-append-drop}
 use Rattle.resp_flat.specs.Numbers.{line_form, string_form, truth_number}
+use Rattle.resp_value.specs.Doubles.{IsDouble}
 use Rattle.resp_value.specs.Rules.{Rules, WithinItems, IsInRange, IsLeafInTwo, IsNoDouble}
-use Rattle.resp_value.specs.Trees.{LineKind, Simple, Error, Double, Int, StringKind, Bulk, BulkError, Verbatim, NullForm, BulkNull, ArrayNull, PlainNull, line, numeral, null, truth, string, null_line, truth_line, HasFormat, line_byte, string_byte, payload}
+use Rattle.resp_value.specs.Trees.{LineKind, Simple, Error, Double, Int, StringKind, Bulk, BulkError, Verbatim, NullForm, BulkNull, ArrayNull, PlainNull, line, numeral, null, truth, string, null_line, truth_line, HasFormat, line_byte, string_byte, payload, IsNumberIn}
 use Rattle.resp_value.specs.TreeValues.{line_value, string_value}
 use Rattle.resp_value.proofs.FirstBytes.{all_front}
 use Rattle.resp_flat.specs.declared.node.Node.{Node}
@@ -60,17 +63,31 @@ line_stands buffer node Simple s h = h
 line_stands buffer node Error s h = h
 line_stands buffer node Double s h = h
 
+any_in_two : (k : LineKind) → HasAnyText k → IsLeafInTwo (line k [])
+any_in_two Simple any = tt
+any_in_two Error any = tt
+any_in_two Double any = absurd any
+
+any_no_double : (k : LineKind) → HasAnyText k → IsNoDouble (line k [])
+any_no_double Simple any = tt
+any_no_double Error any = tt
+any_no_double Double any = absurd any
+
+-- the line that a text begins with is the text before its end
+pub line_taken : (text rest : List ℕ) (n : ℕ) (b : BeginsWithLine text n rest) → take n text ≡ b.line
+line_taken text rest n b = sym (first_bytes n text b.line rest b.whole b.sized)
+
 -- a line and its type byte are a leaf
 pub line_read : (r : Rules) (buffer : List ℕ) (at n end : ℕ) (k : LineKind) → IsText buffer → at < length buffer →
-    get_or buffer at 0 ≡ line_byte k → BeginsWithLine (drop (at + 1) buffer) n (crlf (drop end buffer)) → end ≤ length buffer →
+    get_or buffer at 0 ≡ line_byte k → (b : BeginsWithLine (drop (at + 1) buffer) n (crlf (drop end buffer))) → end ≤ length buffer →
     n ≤ r.limits.length → (r.version ≡ Two → IsLeafInTwo (line k [])) → (r.limits.doubles ≡ false → IsNoDouble (line k [])) →
-    IsLeafAt r buffer at end (text_node (line_form k) (at + 1) n)
-line_read r buffer at n end k bytes some first b within fits two double =
+    IsNumberIn k b.line → IsLeafAt r buffer at end (text_node (line_form k) (at + 1) n)
+line_read r buffer at n end k bytes some first b within fits two double number =
     let body : IsText (b.line ++ crlf (drop end buffer)) = subst IsText b.whole (text_from (at + 1) buffer bytes) in
     let size = b.sized in
     record {
       leaf = line k b.line;
-      is_leaf = (b.is_line, all_front IsByte b.line (crlf (drop end buffer)) body);
+      is_leaf = (b.is_line, all_front IsByte b.line (crlf (drop end buffer)) body, number);
       keeps = line_keeps r k two double b.line (omega (arith, size, fits));
       plain = λ level. tt;
       whole = byte_first buffer at some ∙ ap (λ c. c ∷ drop (at + 1) buffer) first ∙ ap (λ l. line_byte k ∷ l) b.whole ∙
@@ -291,3 +308,18 @@ verbatim_read r buffer at n head end three bytes some first b least room colon e
       one = refl;
       stands = (verbatim_text buffer format start (n - 4) s (crlf (drop end buffer)) parts size (omega arith), refl);
     }
+
+-- a simple string or an error and its type byte are a leaf
+pub any_line_read : (r : Rules) (buffer : List ℕ) (at n end : ℕ) (k : LineKind) → IsText buffer → at < length buffer →
+    get_or buffer at 0 ≡ line_byte k → BeginsWithLine (drop (at + 1) buffer) n (crlf (drop end buffer)) → end ≤ length buffer →
+    n ≤ r.limits.length → HasAnyText k → IsLeafAt r buffer at end (text_node (line_form k) (at + 1) n)
+any_line_read r buffer at n end k bytes some first b within fits any =
+    line_read r buffer at n end k bytes some first b within fits (λ two. any_in_two k any) (λ off. any_no_double k any) (any_number k b.line any)
+
+-- a double and its type byte are a leaf
+pub double_read : (r : Rules) (buffer : List ℕ) (at n end : ℕ) → IsText buffer → at < length buffer → get_or buffer at 0 ≡ 44 →
+    BeginsWithLine (drop (at + 1) buffer) n (crlf (drop end buffer)) → end ≤ length buffer → n ≤ r.limits.length → (r.version ≡ Two → ⊥) →
+    r.limits.doubles ≡ true → IsDouble (take n (drop (at + 1) buffer)) → IsLeafAt r buffer at end (text_node 2 (at + 1) n)
+double_read r buffer at n end bytes some first b within fits no_two allowed double =
+    line_read r buffer at n end Double bytes some first b within fits (λ two. absurd (no_two two)) (λ off. absurd (cc))
+    (subst IsDouble (line_taken (drop (at + 1) buffer) (crlf (drop end buffer)) n b) double)

@@ -1,11 +1,13 @@
 //! Values without members.
 
-ghost use Rattle.std.specs.Prelude.{◌≡◌, ℕ, List, Bool, ◌+◌, ◌<◌, ◌≤◌, [], ◌∷◌, ◌++◌, pos, IfNone, IfSome, codes, drop, false, get_or, length};
+ghost use Rattle.std.specs.Prelude.{◌≡◌, ℕ, List, Bool, ◌+◌, ◌<◌, ◌≤◌, [], ◌∷◌, ◌++◌, pos, IfNone, IfSome, codes, drop, true, get_or, length};
 ghost use Rattle.std.proofs.Common.{neg_ℤ};
 ghost use Rattle.std.specs.Str.{byte};
 ghost use Rattle.resp_value.specs.Bounds.{Bounds};
 ghost use Rattle.resp_value.specs.Bytes.{crlf};
-ghost use Rattle.resp_value.specs.Rules.{Rules, IsLeafInTwo, IsNoDouble, rules_under};
+ghost use Rattle.resp_fronts.specs.Tokens.{HasAnyText};
+ghost use Rattle.resp_value.specs.Doubles.{IsDouble};
+ghost use Rattle.resp_value.specs.Rules.{Rules, IsLeafInTwo, rules_under};
 ghost use Rattle.resp_value.specs.Trees.{LineKind, StringKind, line, line_byte, string, string_byte, truth_line};
 ghost use Rattle.resp_value.specs.declared.version.Version.{Version};
 ghost use Rattle.resp_value.specs.declared.version.Version.TheVariants.{Two};
@@ -14,6 +16,7 @@ ghost use Rattle.resp_flat.specs.Plain.{BeginsWithLine, BeginsWithNumber, HasLea
 
 use crate::heads::{is_line_end, line_end, number_line};
 use crate::node::{BOOL, INT, NULL, Node, leaf, text, verbatim};
+use resp_value::double::is_double;
 use resp_value::limits::Limits;
 use resp_value::version::Version;
 
@@ -30,13 +33,12 @@ const MOST: u64 = 9_223_372_036_854_775_807;
 /// The absolute value of the least integer.
 const LEAST: u64 = 9_223_372_036_854_775_808;
 
-/// Reads a line of text.
+/// Reads the line of a simple string or an error.
 #[inline(always)]
 fn line(buffer: &[u8], at: usize, limits: &Limits, form: u8) -> Option<Leaf>
     requires { at < length buffer.now }
     ensures found { (version : Version) (k : LineKind) → get_or buffer.now at 0 ≡ line_byte k → form ≡ line_form k →
-        (version ≡ Two → IsLeafInTwo (line k [])) → (limits.now.doubles ≡ false → IsNoDouble (line k [])) →
-        IfSome result (λ found. IsLeafAt (rules_under version limits.now) buffer.now at found.end found.node) }
+        HasAnyText k → IfSome result (λ found. IsLeafAt (rules_under version limits.now) buffer.now at found.end found.node) }
     ensures none { IfNone result ((size : ℕ) (rest : List ℕ) → size ≤ limits.now.length →
         BeginsWithLine (drop (at + 1) buffer.now) size (crlf rest) → ⊥) }
 {
@@ -47,6 +49,30 @@ fn line(buffer: &[u8], at: usize, limits: &Limits, form: u8) -> Option<Leaf>
     }
     Some(Leaf {
         node: text(form, at + 1, length),
+        end: end + 2,
+    })
+}
+
+/// Reads a double.
+#[inline(always)]
+fn double(buffer: &[u8], at: usize, limits: &Limits) -> Option<Leaf>
+    requires { at < length buffer.now }
+    ensures found { (version : Version) → (version ≡ Two → ⊥) → limits.now.doubles ≡ true →
+        get_or buffer.now at 0 ≡ byte "," →
+        IfSome result (λ found. IsLeafAt (rules_under version limits.now) buffer.now at found.end found.node) }
+    ensures none { IfNone result ((text rest : List ℕ) → IsDouble text → length text ≤ limits.now.length →
+        drop (at + 1) buffer.now ≡ text ++ crlf rest → ⊥) }
+{
+    let end = line_end(buffer, at + 1)?;
+    let length = end - (at + 1);
+    if length as u64 > limits.length() {
+        return None;
+    }
+    if !is_double(&buffer[at + 1..end]) {
+        return None;
+    }
+    Some(Leaf {
+        node: text(2, at + 1, length),
         end: end + 2,
     })
 }
@@ -195,7 +221,7 @@ fn leaf_in_three(buffer: &[u8], at: usize, limits: &Limits) -> Option<Leaf>
             if !limits.doubles() {
                 return None;
             }
-            line(buffer, at, limits, 2)
+            double(buffer, at, limits)
         }
         b'!' => string(buffer, at, limits, 4),
         b'=' => verbatim_string(buffer, at, limits),

@@ -3,6 +3,7 @@ pub mod CountedContent
 pub mod StreamedStrings
 pub mod BegunFronts
 pub mod LineTokens
+pub mod DoubleTokens
 pub mod NumberTokens
 pub mod HeadTokens
 pub mod StreamedHeads

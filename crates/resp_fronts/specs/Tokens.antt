@@ -1,12 +1,15 @@
 -- The bytes of a value so far, for each token, on a level and within the rules.
-use Rattle.std.specs.Prelude.{◌≡◌, ℕ, zero, suc, ◌≤◌, false, List, [], ◌∷◌, ◌++◌, length, codes}
+use Rattle.std.specs.Prelude.{◌≡◌, ℕ, zero, suc, ◌+◌, ◌≤◌, false, Some, List, [], ◌∷◌, ◌++◌, length, codes}
 use Rattle.std.specs.Str.{byte}
 use Rattle.resp_value.specs.Bytes.{IsLine, IsText, crlf}
 use Rattle.resp_value.specs.Data.{Kind, members_of}
+use Rattle.resp_value.specs.DoubleStages.{stage_after_all, stage_needs}
 use Rattle.resp_value.specs.LocalRules.{LeafKeeps, NodeKeeps}
 use Rattle.resp_value.specs.Numbers.{IsDigits, Sign, Minus, kept_digits, number, sign_text}
 use Rattle.resp_value.specs.Rules.{Rules, WithinItems}
 use Rattle.resp_value.specs.Trees.{Big, Bulk, Counted, Double, HasFormat, Int, IsLeaf, Leaf, LineKind, NumberKind, StringKind, kind_byte, leaf_line, leaf_rest, line_byte, number_byte, payload, string_byte}
+use Rattle.resp_value.specs.declared.double_stage.DoubleStage.{DoubleStage}
+use Rattle.resp_value.specs.declared.double_stage.DoubleStage.TheVariants.{Begun}
 use Rattle.resp_value.specs.declared.version.Version.TheVariants.{Two}
 
 -- no rule rejects lines of this kind: only version 3 has doubles, and only if they are allowed
@@ -27,15 +30,31 @@ pub record IsReturned (r : Rules) (l : Leaf) (level : ℕ) (bytes : List ℕ) : 
   pub line_of : IsLineOf r l level begun
   pub returned : bytes ≡ begun ++ codes "\r"
 
--- the line of a simple string, an error or a double, with this many bytes of text
+-- lines of this kind have any text
+abbrev pub HasAnyText : LineKind → Type 0
+HasAnyText Double = ⊥
+HasAnyText _ = Unit {0}
+
+-- the line of a simple string or an error, with this many bytes of text
 pub record IsTextToken (r : Rules) (k : LineKind) (n : ℕ) (level : ℕ) (bytes : List ℕ) : Type 0 where
   pub content : List ℕ
   pub has_line : HasLine r k
+  pub any_text : HasAnyText k
   pub is_line : IsLine content
   pub is_text : IsText content
   pub size : length content ≡ n
   pub fits : n ≤ r.limits.length
   pub are : bytes ≡ line_byte k ∷ content
+
+-- the bytes of a double so far, which lead to this stage, with this many bytes of text; the limit of length leaves room
+-- for the least bytes that complete it
+pub record IsDoubleToken (r : Rules) (stage : DoubleStage) (n : ℕ) (level : ℕ) (bytes : List ℕ) : Type 0 where
+  pub content : List ℕ
+  pub has_line : HasLine r Double
+  pub at_stage : stage_after_all Begun content ≡ Some stage
+  pub size : length content ≡ n
+  pub fits : n + stage_needs stage ≤ r.limits.length
+  pub are : bytes ≡ byte "," ∷ content
 
 -- the greatest digits of a sign
 abbrev pub greatest : Sign → ℕ

@@ -48,7 +48,7 @@ text_of (d.Bool b) = []
 text_of (d.Int i) = []
 text_of (d.Simple text) = text
 text_of (d.Error text) = text
-text_of (d.Double text) = text
+text_of (d.Double text) = []
 text_of (d.Bulk text) = text
 text_of (d.BulkError text) = text
 text_of (d.Verbatim format text) = text
@@ -60,7 +60,7 @@ with_text (d.Bool b) w = d.Bool b
 with_text (d.Int i) w = d.Int i
 with_text (d.Simple text) w = d.Simple w
 with_text (d.Error text) w = d.Error w
-with_text (d.Double text) w = d.Double w
+with_text (d.Double text) w = d.Double text
 with_text (d.Bulk text) w = d.Bulk w
 with_text (d.BulkError text) w = d.BulkError w
 with_text (d.Verbatim format text) w = d.Verbatim format w
@@ -108,11 +108,32 @@ text_lengths shown (d.Bool b) = sym (longer-none shown 0 (omega arith))
 text_lengths shown (d.Int i) = sym (longer-none shown 0 (omega arith))
 text_lengths shown (d.Simple text) = refl
 text_lengths shown (d.Error text) = refl
-text_lengths shown (d.Double text) = refl
+text_lengths shown (d.Double text) = sym (longer-none shown 0 (omega arith))
 text_lengths shown (d.Bulk text) = refl
 text_lengths shown (d.BulkError text) = refl
 text_lengths shown (d.Verbatim format text) = refl
 text_lengths shown (d.Big negative digits) = sym (longer-none shown 0 (omega arith))
+
+-- a double is kept whole
+double_of_cut : (shown : ℕ) (whole : Scalar) (text : List ℕ) → d.Double text ≡ cut_scalar shown whole → whole ≡ d.Double text
+double_of_cut shown (d.Double w) text e = sym e
+double_of_cut shown d.Null text e = absurd (cc)
+double_of_cut shown (d.Bool b) text e = absurd (cc)
+double_of_cut shown (d.Int i) text e = absurd (cc)
+double_of_cut shown (d.Simple w) text e = absurd (cc)
+double_of_cut shown (d.Error w) text e = absurd (cc)
+double_of_cut shown (d.Bulk w) text e = absurd (cc)
+double_of_cut shown (d.BulkError w) text e = absurd (cc)
+double_of_cut shown (d.Verbatim format w) text e = absurd (cc)
+double_of_cut shown (d.Big negative digits) text e = absurd (cc)
+
+-- so it stands for itself, and has none of the lengths
+pub double_for : (most : Option ℕ) (lengths text : List ℕ) (whole : Scalar) (rest : List ℕ) → ScalarFor most lengths (d.Double text) whole rest →
+    (whole ≡ d.Double text) × (lengths ≡ rest)
+double_for most lengths text whole rest (inl (a, b, same)) = (sym same, a ∙ sym b)
+double_for most lengths text whole rest (inr (shown, is, same, ls)) =
+    let itself = double_of_cut shown whole text same in
+    (itself, ls ∙ ap (λ s. scalar_lengths shown s ++ rest) itself)
 
 -- what is kept of a value is its kind and what is kept of its text
 pub text_for : (most : Option ℕ) (lengths : List ℕ) (s whole : Scalar) (rest : List ℕ) → ScalarFor most lengths s whole rest →

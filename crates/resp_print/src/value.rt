@@ -433,8 +433,10 @@ fn write_scalar_line<W: Sink>(
             write_kept_string(b"simple \"", line.text(), most, lengths, writer)
         }
         Value::Error(line) => { write_kept_string(b"error \"", line.text(), most, lengths, writer) }
-        Value::Double(text) => {
-            write_kept_string(b"double \"", text.text(), most, lengths, writer)
+        Value::Double(double) => {
+            // (a double is kept whole, so its number of bytes is none of the lengths)
+            let text = double.text();
+            write_string(b"double \"", text, most, text.len() as u64, writer)
         }
         Value::Bulk(content) => {
             write_kept_string(b"bulk \"", content.list(), most, lengths, writer)

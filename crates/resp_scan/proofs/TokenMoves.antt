@@ -3,6 +3,7 @@ pub mod Moves
 pub mod RefusedMoves
 pub mod LeafEvents
 pub mod LinesLead
+pub mod DoublesLead
 pub mod NumbersLead
 pub mod BigNumbersLead
 pub mod LiteralsLead

@@ -1,5 +1,6 @@
 -- The events that a listener receives, and its statements about them.
 use Rattle.std.specs.Prelude.{◌≡◌, ℕ, ◌+◌, ◌≤◌, Bool, true, false, List, [], ◌∷◌, ◌++◌, length, take, MatchBool, Result, IfOk, IfErr}
+use Rattle.resp_value.specs.Doubles.{IsDouble}
 use Rattle.resp_value.specs.Bounds.{AreBounds}
 use Rattle.resp_value.specs.Bytes.{IsLine}
 use Rattle.resp_value.specs.Rules.{Rules, WithinTotal}
@@ -48,11 +49,11 @@ Hears HadHeard HasHeard HasStopped more goes_on = (since : _) (given : Events) �
 abbrev pub whole_text_events : TextKind → List ℕ → Events
 whole_text_events kind bytes = e.Text (text_kind_of kind) ∷ (content_events bytes ++ e.TextEnd ∷ [])
 
--- a simple string, a simple error, a double or a bulk string has these bytes: the first three are lines
+-- a simple string, a simple error, a double or a bulk string has these bytes: the first two are lines
 abbrev pub IsTextOf : TextKind → List ℕ → Type 0
 IsTextOf text.Simple bytes = IsLine bytes
 IsTextOf text.Error bytes = IsLine bytes
-IsTextOf text.Double bytes = IsLine bytes
+IsTextOf text.Double bytes = IsDouble bytes
 IsTextOf text.Bulk bytes = Unit {0}
 IsTextOf _ bytes = ⊥
 

@@ -11,6 +11,7 @@ mod aggregates;
 mod big_numbers;
 mod chunks;
 mod content;
+mod doubles;
 pub mod event;
 mod frame;
 mod heads;

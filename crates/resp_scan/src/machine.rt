@@ -9,6 +9,7 @@ ghost use Rattle.std.specs.Prelude.{◌≡◌, ◌<◌, ◌≤◌, ◌+◌, ◌^
 use crate::frame::{Frame, Shape};
 use arrayvec::ArrayVec;
 use resp_value::cause::Cause;
+use resp_value::double_stage::DoubleStage;
 use resp_value::kind::OpenKind;
 use resp_value::limits::Limits;
 use resp_value::version::Version;
@@ -37,6 +38,7 @@ pub(crate) enum State {
     /// begin.
     Boundary,
     Line,
+    Double,
     LineLf,
     IntSign,
     IntFirst,
@@ -141,8 +143,10 @@ pub(crate) struct Machine {
     pub big_negative: bool,
     /// The value of a head's digits so far, or the number of content bytes still to come.
     pub count: u64,
-    /// The number of bytes that the limit `length` leaves for a line, for the digits of a big
-    /// number or for a streamed string.
+    /// How far a double has been read.
+    pub stage: DoubleStage,
+    /// The number of bytes that the limit `length` leaves for a line, for a double, for the digits
+    /// of a big number or for a streamed string.
     pub room: u64,
     pub digit: u8,
     pub format: [u8; 3],

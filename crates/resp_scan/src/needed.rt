@@ -30,6 +30,7 @@ impl Machine {
             State::Start => { if self.frames.is_empty() { 3 } else { 0 } }
             State::Boundary | State::TextEnd | State::Failed => 0,
             State::Line | State::Int | State::BigZeros | State::BigDigit | State::Big => 2,
+            State::Double => self.stage.needs() + 2,
             State::LineLf | State::IntLf | State::BigZeroLf => 1,
             State::IntSign | State::IntFirst | State::BigSign | State::BigFirst => 3,
             State::NullOne | State::Bool => 3,

@@ -10,6 +10,7 @@ use crate::machine::{Head, Machine, State};
 use crate::slot::Slot;
 use arrayvec::ArrayVec;
 use resp_value::cause::Cause;
+use resp_value::double_stage::DoubleStage;
 use resp_value::kind::OpenKind;
 use resp_value::limits::Limits;
 use resp_value::version::Version;
@@ -95,6 +96,7 @@ impl Scanner {
                 value: 0,
                 big_negative: false,
                 count: 0,
+                stage: DoubleStage::Begun,
                 room: 0,
                 digit: b'0',
                 format: [0; 3],

@@ -8,6 +8,7 @@ ghost use Rattle.resp_scan.specs.Machine.Tokens.{Place};
 use crate::machine::{Advance, EventTag, Head, Machine, State};
 use crate::needed::first_needed;
 use resp_value::cause::Cause;
+use resp_value::double_stage::DoubleStage;
 use resp_value::version::Version;
 
 impl Machine {
@@ -83,12 +84,29 @@ impl Machine {
         }
         match self.version {
             Version::Two => self.fail(0, Cause::Version),
-            Version::Three => self.line_begins(EventTag::Double),
+            Version::Three => self.double_line_begins(),
         }
     }
 
-    /// Begins a simple string, a simple error or a double, unless the limit `items` or `total`
-    /// rejects it.
+    /// Begins the line of a double, unless the limit `items` or `total` rejects it.
+    #[inline]
+    #[tactic(auto, using(crate::proofs::Soundness::Starts::double_lines))]
+    fn double_line_begins(&mut self) -> Advance
+        requires { IsSound (at (place_of self.old) AtStart) }
+        ensures { (p : List ℕ) → out_of result self.new ≡
+            after_first (m.double_line_move (at (place_of self.old) AtStart))
+            (at (place_of self.old) AtStart) p }
+    {
+        if let Some(cause) = self.begin(3) {
+            return self.fail(0, cause);
+        }
+        self.state = State::Double;
+        self.stage = DoubleStage::Begun;
+        self.room = self.limits.length();
+        self.gives(1, EventTag::Double)
+    }
+
+    /// Begins a simple string or a simple error, unless the limit `items` or `total` rejects it.
     #[inline]
     #[tactic(auto, using(crate::proofs::Soundness::Starts::lines))]
     fn line_begins(&mut self, tag: EventTag) -> Advance
@@ -100,10 +118,6 @@ impl Machine {
         ensures error { (p : List ℕ) → tag ≡ EventTag.Error →
             out_of result self.new ≡ after_first
             (m.line_move (at (place_of self.old) AtStart) (Text text.Error))
-            (at (place_of self.old) AtStart) p }
-        ensures double { (p : List ℕ) → tag ≡ EventTag.Double →
-            out_of result self.new ≡ after_first
-            (m.line_move (at (place_of self.old) AtStart) (Text text.Double))
             (at (place_of self.old) AtStart) p }
     {
         if let Some(cause) = self.begin(2) {

@@ -55,6 +55,7 @@ impl Machine {
             State::Start => self.start_apart(piece),
             State::Boundary => self.after_value(piece),
             State::Line => self.line(piece),
+            State::Double => self.double(piece),
             State::LineLf => self.line_lf(piece, 0),
             State::IntSign => self.int_sign(piece, 0),
             State::IntFirst => self.int_signed(piece, 0, self.negative),

@@ -3,16 +3,18 @@
 //! with its end.
 
 ghost use Rattle.std.specs.Prelude.{◌≡◌, ◌≤◌, ◌<◌, ◌+◌, ◌-◌, ◌^◌, List, length, IfSome, min, take, drop, ℕ};
-ghost use Rattle.resp_scan.specs.Machine.Runs.{plain_run};
+ghost use Rattle.resp_scan.specs.Machine.Runs.{plain_run, double_run};
 ghost use Rattle.resp_scan.specs.Machine.Tokens.{Place, at};
-ghost use Rattle.resp_scan.specs.Machine.Turns.{EndsAt, IsLineTag};
+ghost use Rattle.resp_scan.specs.Machine.Turns.{EndsAt, EndsDouble, IsLineTag};
 
+use crate::doubles::double_run;
 use crate::event::{Fault, TextKind};
 use crate::frame::Shape;
 use crate::lines::line_run;
 use crate::machine::{Advance, EventTag, Machine, State};
 use crate::receiver::Receiver;
 use crate::step::{digit_text, run};
+use resp_value::double_stage::DoubleStage;
 
 /// Where a turn begins.
 #[derive(Clone, Copy)]
@@ -127,6 +129,7 @@ impl Machine {
             Some(kind) => self.tell_line(rest, taken, kind, receiver),
             None => match taken.tag {
                 EventTag::Bulk => self.tell_content(rest, taken, receiver),
+                EventTag::Double => self.tell_double(rest, taken, receiver),
                 _ => self.tell(rest, taken, receiver),
             },
         }
@@ -164,6 +167,26 @@ impl Machine {
         let after = beyond(rest, taken.used);
         match self.whole_line(after, taken.used) {
             Some(run) => self.tell_whole(rest, taken.used, kind, run, receiver),
+            None => self.tell(rest, taken, receiver),
+        }
+    }
+
+    /// Passes a double: the complete text if it ends in this rest, otherwise its beginning.
+    fn tell_double<R: Receiver>(
+        &mut self,
+        rest: &[u8],
+        taken: Advance,
+        receiver: &mut R,
+    ) -> R::Answer
+        requires whole { (s : Place) × IsSound s × (out_of taken self.old ≡ out_from s rest.now) }
+        requires tag { taken.tag ≡ EventTag.Double }
+        ensures { (s : Place) → IsSound s → out_of taken self.old ≡ out_from s rest.now →
+            Passes (R.takes receiver.old receiver.new result)
+            (R.takes_text receiver.old receiver.new result) s self.new rest.now }
+    {
+        let after = beyond(rest, taken.used);
+        match self.whole_double(after, taken.used) {
+            Some(run) => self.tell_whole(rest, taken.used, TextKind::Double, run, receiver),
             None => self.tell(rest, taken, receiver),
         }
     }
@@ -231,6 +254,29 @@ impl Machine {
         let most = self.room.min(total).min(piece.len() as u64) as usize;
         let run = line_run(&piece[..most]);
         ends_at(piece, run)
+    }
+
+    /// Returns the number of bytes of a double before its CR LF, if none of its bytes has been read
+    /// and the CR LF is in this piece. The `head` bytes before the double have not been counted
+    /// yet.
+    #[inline]
+    fn whole_double(&self, piece: &[u8], head: usize) -> Option<usize>
+        requires { head ≤ 2 ^ 63 }
+        ensures few { IfSome result (λ run. run ≤ 2 ^ 63) }
+        ensures double { IfSome result (λ run. (self.now.state ≡ State.Double) ×
+            (self.now.stage ≡ DoubleStage.Begun) × EndsAt piece.now run ×
+            EndsDouble (double_run 0 (total_room (place_of self.now) - head) self.now.room
+            DoubleStage.Begun piece.now) run) }
+    {
+        let (State::Double, DoubleStage::Begun) = (self.state, self.stage) else {
+            return None;
+        };
+        let total = self.total_room().saturating_sub(head as u64);
+        let run = double_run(DoubleStage::Begun, self.room, total, piece);
+        if run.stage.needs() > 0 {
+            return None;
+        }
+        ends_at(piece, run.count)
     }
 
     /// Returns the number of bytes of counted content before its CR LF, if the CR LF is in this
@@ -316,7 +362,6 @@ fn line_kind(tag: EventTag) -> Option<TextKind>
     match tag {
         EventTag::Simple => Some(TextKind::Simple),
         EventTag::Error => Some(TextKind::Error),
-        EventTag::Double => Some(TextKind::Double),
         _ => None,
     }
 }

@@ -83,8 +83,8 @@ canonical_leaf_is_leaf : (w : Version) (s : Scalar) → IsScalarValue s → IsLe
 canonical_leaf_is_leaf w d.Null p = tt
 canonical_leaf_is_leaf w (d.Bool b) p = tt
 canonical_leaf_is_leaf w (d.Int i) p = decimal_is_digits (int_size i)
-canonical_leaf_is_leaf w (d.Simple s) p = p
-canonical_leaf_is_leaf w (d.Error s) p = p
+canonical_leaf_is_leaf w (d.Simple s) p = (p.0, p.1, tt)
+canonical_leaf_is_leaf w (d.Error s) p = (p.0, p.1, tt)
 canonical_leaf_is_leaf w (d.Double s) p = p
 canonical_leaf_is_leaf w (d.Bulk s) p = (decimal_is_number (length s), tt, p)
 canonical_leaf_is_leaf w (d.BulkError s) p = (decimal_is_number (length s), tt, p)

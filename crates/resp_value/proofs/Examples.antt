@@ -1,5 +1,5 @@
 -- Worked examples.
-use Rattle.std.proofs.Common.{ℕ, ◌<◌, ◌≤◌, false, List, [], ◌∷◌, length, length-append, codes, pos, refl, sym, subst, arith}
+use Rattle.std.proofs.Common.{◌≡◌, ℕ, ◌<◌, ◌≤◌, true, false, List, [], ◌∷◌, length, length-append, codes, pos, refl, sym, subst, arith}
 use Rattle.std.proofs.lemmas.Int.{ints}
 use Rattle.resp_value.specs.Bounds.{AreBounds}
 use Rattle.resp_value.specs.Numbers.{Unsigned, Plus, Minus}
@@ -10,8 +10,11 @@ use Rattle.resp_value.specs.TreeValues.{value}
 use Rattle.resp_value.specs.Rules.{Rules, Rule, Grammar, NoDouble, InVersion, PushAtTop, InRange, NotStreamed, WithinDepth, WithinLength, WithinItems, WithinTotal, Meets, Every, HasVersion, IsLeafInTwo, IsNodeInTwo, IsCountedLeaf, IsCountedNode}
 use Rattle.resp_value.specs.Spellings.{IsSpelling}
 use Rattle.resp_value.specs.Examples.{simple, IsSpelledInBoth, IsSpelledInThree, IsSpelledStreamed, IsSpelledWithDoubles}
+use Rattle.resp_value.specs.DoubleStages.{completes}
+use Rattle.resp_value.specs.declared.double_stage.DoubleStage.TheVariants.{Begun}
+use Rattle.resp_value.proofs.Doubles.{completes_double, is_double_leaf}
 use Rattle.resp_value.proofs.Splitting.{plain_above}
-use Rattle.resp_value.proofs.ByTests.{bytes_by_test, digits_by_test, line_by_test}
+use Rattle.resp_value.proofs.ByTests.{bytes_by_test, digits_by_test}
 use Rattle.resp_value.proofs.SmallTrees.{IsSmall, small_meets, small_leaf, small_node, one_digit, in_each_version, if_counted}
 
 -- a small tree's text is a spelling of its value in the tree's version
@@ -61,7 +64,7 @@ plain_null = in_three (leaf (null PlainNull)) (small_leaf (null PlainNull) tt tt
 pub error : IsSpelledInBoth (codes "-a\r\n") (scalar (d.Error (codes "a")))
 error =
     let t = line Error (codes "a") in
-    in_both (leaf t) (small_leaf t ((plain_above 97 (omega arith), tt), (omega arith, tt)) tt tt (omega arith) (omega arith)) tt tt
+    in_both (leaf t) (small_leaf t ((plain_above 97 (omega arith), tt), (omega arith, tt), tt) tt tt (omega arith) (omega arith)) tt tt
 
 pub bulk_error : IsSpelledInThree (codes "!1\r\na\r\n") (scalar (d.BulkError (codes "a")))
 bulk_error =
@@ -98,7 +101,7 @@ chunks =
 
 -- a simple string of one byte
 pub simple_is_line : (byte : ℕ) → 13 < byte → byte < 256 → IsLeaf (line Simple (byte ∷ []))
-simple_is_line byte above below = ((plain_above byte above, tt), (below, tt))
+simple_is_line byte above below = ((plain_above byte above, tt), (below, tt), tt)
 
 pub streamed_map : IsSpelledStreamed (codes "%?\r\n+a\r\n:1\r\n.\r\n")
     (aggregate Map (d.more (scalar (d.Simple (codes "a"))) (d.more (scalar (d.Int (pos 1))) d.none)))
@@ -170,8 +173,19 @@ double_spells text is short r b is_three allowed = record {
         let whole = length-append (44 ∷ text) (codes "\r\n") in
         omega arith
 
-pub double : IsSpelledWithDoubles (codes ",3.14\r\n") (scalar (d.Double (codes "3.14")))
-double = double_spells (codes "3.14") (line_by_test (codes "3.14") refl, bytes_by_test (codes "3.14") refl) (omega arith)
+-- a text that the stages read is a spelling of its double
+spelled_double : (text : List ℕ) → completes Begun text ≡ true → length text ≤ 64 →
+    IsSpelledWithDoubles (leaf_text (line Double text)) (scalar (d.Double text))
+spelled_double text reads = double_spells text (is_double_leaf text (completes_double text reads))
 
-pub empty_double : IsSpelledWithDoubles (codes ",\r\n") (scalar (d.Double []))
-empty_double = double_spells [] (tt, tt) (omega arith)
+pub double : IsSpelledWithDoubles (codes ",3.14\r\n") (scalar (d.Double (codes "3.14")))
+double = spelled_double (codes "3.14") refl (omega arith)
+
+pub exponent : IsSpelledWithDoubles (codes ",-1E+20\r\n") (scalar (d.Double (codes "-1E+20")))
+exponent = spelled_double (codes "-1E+20") refl (omega arith)
+
+pub infinity : IsSpelledWithDoubles (codes ",-inf\r\n") (scalar (d.Double (codes "-inf")))
+infinity = spelled_double (codes "-inf") refl (omega arith)
+
+pub negative_nan : IsSpelledWithDoubles (codes ",-nan\r\n") (scalar (d.Double (codes "-nan")))
+negative_nan = spelled_double (codes "-nan") refl (omega arith)

@@ -4,6 +4,7 @@ pub mod DatumOf
 pub mod AttributeLemmas
 pub mod Splitting
 pub mod FirstBytes
+pub mod Doubles
 pub mod FirstLines
 pub mod Unique
 pub mod CanonicalTrees

@@ -34,8 +34,8 @@ big_is_kept sign digits h =
     (k.are_digits, k.same, λ z. ap (λ m. cond (eqb m 0) false (is_minus sign)) (sym k.same_number ∙ z))
 
 leaf_is_value : (l : Leaf) → IsLeaf l → IsInRange l → IsScalarValue (leaf_value l)
-leaf_is_value (line Simple s) is range = is
-leaf_is_value (line Error s) is range = is
+leaf_is_value (line Simple s) is range = (is.0, is.1)
+leaf_is_value (line Error s) is range = (is.0, is.1)
 leaf_is_value (line Double s) is range = is
 leaf_is_value (numeral Int sign digits) is range = range
 leaf_is_value (numeral Big sign digits) is range = big_is_kept sign digits is

@@ -1,22 +1,26 @@
 -- Worked examples of texts that spell nothing, and of the cause.
-use Rattle.std.proofs.Common.{◌≡◌, ℕ, ◌<◌, List, [], ◌∷◌, ◌++◌, length, codes, refl, sym, ap, subst, ◌∙◌, arith, length-append, append_assoc, not, eqb, true}
+use Rattle.std.proofs.Common.{◌≡◌, ℕ, ◌<◌, List, [], ◌∷◌, ◌++◌, length, codes, refl, sym, ap, subst, ◌∙◌, arith, length-append, append_assoc, not, eqb, true, false}
 use Rattle.std.proofs.lemmas.Int.{ints}
 use Rattle.std.proofs.lemmas.List.{append-nil}
 use Rattle.resp_value.specs.Bytes.{IsLine, crlf}
 use Rattle.resp_value.specs.Numbers.{Unsigned, Minus, number}
 use Rattle.resp_value.specs.Data.{Datum, Kind, Array, Map, Attr, Push, members_of}
-use Rattle.resp_value.specs.Trees.{Tree, leaf, node, none, more, line, numeral, Simple, Double, Int, Counted, Streamed, text, texts, count, kind_byte, CanStream, IsTree, Spells, chunked}
+use Rattle.resp_value.specs.Doubles.{IsDouble}
+use Rattle.resp_value.specs.DoubleStages.{completes}
+use Rattle.resp_value.specs.declared.double_stage.DoubleStage.TheVariants.{Begun}
+use Rattle.resp_value.specs.Trees.{Tree, leaf, node, none, more, line, numeral, Simple, Error, Double, Int, Counted, Streamed, text, texts, count, kind_byte, CanStream, IsTree, Spells, chunked}
 use Rattle.resp_value.specs.Rules.{Rules, Rule, Grammar, NoDouble, InVersion, PushAtTop, InRange, WithinTotal, Meets, Every, HasVersion, HasPushAtRoot, IsAnyLeaf, IsNoPush, NotStreamed}
 use Rattle.resp_value.specs.Spellings.{IsSpelling, IsCause}
 use Rattle.resp_value.specs.Examples.{simple, SpellsNothing, SpellsNothingInTwo, SpellsNothingSwitchedOff, SpellsNothingWithoutDoubles, HasCause, HasCauseInThree, IsCutWithFault}
+use Rattle.resp_value.proofs.Doubles.{completes_double, double_completes, is_double_leaf}
 use Rattle.resp_value.proofs.Splitting.{plain_above, return_split, no_newline_in_line}
 use Rattle.resp_value.proofs.FirstBytes.{kind_of_byte, first_byte, first_byte_is, leaf_bytes, at_leaf_byte, leaf_is_no_push}
-use Rattle.resp_value.proofs.FirstLines.{node_of, no_sort, sort, sort_of, sort_is, first_line, first_is_line, after_line, text_is, line_decides}
+use Rattle.resp_value.proofs.FirstLines.{node_of, leaf_of, line_sort, no_sort, sort, sort_of, sort_is, first_line, first_is_line, after_line, text_is, line_decides}
 use Rattle.resp_value.proofs.Unique.{same_tree, streamed_unique}
 use Rattle.resp_value.proofs.SpellingLaws.{up_to_total}
 use Rattle.resp_value.proofs.ViabilityLaws.{at_first_rules, fault_at_last, fronts_of_spellings_are_viable}
 use Rattle.resp_value.proofs.DefaultLimits.{text_at_least}
-use Rattle.resp_value.proofs.ByTests.{each_passes, apart_by_test, line_by_test, bytes_by_test, digits_by_test}
+use Rattle.resp_value.proofs.ByTests.{each_passes, apart_by_test, line_by_test, digits_by_test}
 use Rattle.resp_value.proofs.SmallTrees.{one_digit}
 use Rattle.resp_value.proofs.Examples.{simple_is_line, small_line}
 
@@ -31,7 +35,7 @@ refused : (t : Tree) (rule : Rule) → IsTree t → ((r : Rules) → Meets r rul
 refused t rule p never r x s = never r (said t rule p r x s)
 
 pub double : SpellsNothingWithoutDoubles (codes ",1.5\r\n")
-double r x off s = said (leaf (line Double (codes "1.5"))) NoDouble (line_by_test (codes "1.5") refl, bytes_by_test (codes "1.5") refl) r x s off
+double r x off s = said (leaf (line Double (codes "1.5"))) NoDouble (is_double_leaf (codes "1.5") (completes_double (codes "1.5") refl)) r x s off
 
 pub more_than_64_bits : SpellsNothing (codes ":9223372036854775808\r\n")
 more_than_64_bits = refused (leaf (numeral Int Unsigned (codes "9223372036854775808"))) InRange
@@ -65,6 +69,45 @@ decided r x first rest s no_break =
 no_sort_of_tree : (t : Tree) → no_sort ≡ sort_of t → ⊥
 no_sort_of_tree (leaf l) e = absurd (cc)
 no_sort_of_tree (node k form ts) e = absurd (cc)
+
+-- a double's text is a number
+text_of_double : (t : Tree) (text : List ℕ) → IsTree t → leaf_of (line_sort Double text) ≡ sort_of t → IsDouble text
+text_of_double (leaf (line Double s)) text p e = let same : s ≡ text = cc in subst IsDouble same p.2
+text_of_double (leaf (line Simple s)) text p e = absurd (cc)
+text_of_double (leaf (line Error s)) text p e = absurd (cc)
+text_of_double _ text p e = absurd (cc)
+
+-- a line after `,` that the stages do not read
+no_double : (text : List ℕ) → IsLine text → completes Begun text ≡ false → SpellsNothing (44 ∷ (text ++ crlf []))
+no_double text is unread r x s =
+    let known = decided r x (44 ∷ text) [] s (plain_above 44 (omega arith), is) in
+    let read : completes Begun text ≡ true = double_completes text (text_of_double s.tree text s.spells.is_tree known.0) in
+    let wrong : false ≡ true = sym unread ∙ read in
+    absurd (cc)
+
+pub empty_double : SpellsNothing (codes ",\r\n")
+empty_double = no_double [] tt refl
+
+pub word_as_double : SpellsNothing (codes ",abc\r\n")
+word_as_double = no_double (codes "abc") (line_by_test (codes "abc") refl) refl
+
+pub double_without_whole : SpellsNothing (codes ",.5\r\n")
+double_without_whole = no_double (codes ".5") (line_by_test (codes ".5") refl) refl
+
+pub double_without_fraction : SpellsNothing (codes ",1.\r\n")
+double_without_fraction = no_double (codes "1.") (line_by_test (codes "1.") refl) refl
+
+pub double_without_exponent : SpellsNothing (codes ",1e+\r\n")
+double_without_exponent = no_double (codes "1e+") (line_by_test (codes "1e+") refl) refl
+
+pub hexadecimal_double : SpellsNothing (codes ",0x1p3\r\n")
+hexadecimal_double = no_double (codes "0x1p3") (line_by_test (codes "0x1p3") refl) refl
+
+pub longer_infinity : SpellsNothing (codes ",infinity\r\n")
+longer_infinity = no_double (codes "infinity") (line_by_test (codes "infinity") refl) refl
+
+pub plus_infinity : SpellsNothing (codes ",+inf\r\n")
+plus_infinity = no_double (codes "+inf") (line_by_test (codes "+inf") refl) refl
 
 -- an attribute of no pairs without a value
 no_bare_attribute : (t : Tree) → IsTree t → node_of Attr (Counted (codes "0")) ≡ sort_of t → after_line t ++ [] ≡ [] → ⊥

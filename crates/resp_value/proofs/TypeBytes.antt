@@ -11,6 +11,7 @@ use Rattle.resp_value.specs.Spellings.{IsViable, IsCause}
 use Rattle.resp_value.specs.Laws.{type_bytes, later_type_bytes, type_bytes_of, TheEmptyTextIsViable, TypeBytesAreViable, LaterTypeBytesWantVersionThree, ACommaBeginsADouble, NoOtherByteBeginsATree}
 use Rattle.resp_value.specs.declared.version.Version.{Version}
 use Rattle.resp_value.specs.declared.version.Version.TheVariants.{Two, Three}
+use Rattle.resp_value.proofs.Doubles.{completes_double, is_double_leaf}
 use Rattle.resp_value.proofs.ByTests.{each_passes, apart_by_test, bytes_by_test}
 use Rattle.resp_value.proofs.SmallTrees.{IsSmall, small_meets, small_leaf, small_node, one_digit, in_each_version, if_counted}
 use Rattle.resp_value.proofs.FirstBytes.{first_byte, begins, first_byte_is, all_append, at_first_byte, at_first_byte_of_no_double, at_first_byte_of_two}
@@ -35,10 +36,10 @@ abbrev bare_attribute : Tree
 bare_attribute = node Attr (Counted zero_digit) (more (leaf (null PlainNull)) none)
 
 small_simple : IsSmall (leaf (line Simple []))
-small_simple = small_leaf (line Simple []) (tt, tt) tt tt (omega arith) (omega arith)
+small_simple = small_leaf (line Simple []) (tt, tt, tt) tt tt (omega arith) (omega arith)
 
 small_error : IsSmall (leaf (line Error []))
-small_error = small_leaf (line Error []) (tt, tt) tt tt (omega arith) (omega arith)
+small_error = small_leaf (line Error []) (tt, tt, tt) tt tt (omega arith) (omega arith)
 
 small_int : IsSmall (leaf (numeral Int Unsigned zero_digit))
 small_int = small_leaf (numeral Int Unsigned zero_digit) zero_is_digits tt (omega (arith, ints), omega (arith, ints)) (omega arith) (omega arith)
@@ -189,14 +190,17 @@ first_rule r rule t h = at_first_rules (λ u. rank u < 1 → Meets r u t) (λ g.
 before_version : (r : Rules) (rule : Rule) (t : Tree) → Meets r NoDouble t → rank rule < 2 → Meets r rule t
 before_version r rule t no_double h = at_first_rules (λ u. rank u < 2 → Meets r u t) (λ g. tt) (λ g. no_double) (λ g. absurd (omega arith)) rule (omega arith) h
 
+zero_is_double : IsTree (leaf (line Double zero_digit))
+zero_is_double = is_double_leaf zero_digit (completes_double zero_digit refl)
+
 -- where doubles aren't allowed, a `,` is refused for that
 comma_without_doubles : (r : Rules) → r.limits.doubles ≡ false → IsCause r (codes ",") NoDouble
 comma_without_doubles r off = record {
   viable_before = λ earlier h. record {
-    rest = codes "\r\n";
-    tree = leaf (line Double []);
-    spells = record { is_tree = (tt, tt); spelled = refl };
-    keeps = λ first g. first_rule r first (leaf (line Double [])) (omega arith);
+    rest = codes "0\r\n";
+    tree = leaf (line Double zero_digit);
+    spells = record { is_tree = zero_is_double; spelled = refl };
+    keeps = λ first g. first_rule r first (leaf (line Double zero_digit)) (omega arith);
   };
   not_viable = λ v. let no_double : Every IsNoDouble IsAnyNode v.tree = v.keeps NoDouble (omega arith) off in
       at_first_byte_of_no_double (λ b. b ≡ 44 → ⊥) (apart_by_test 44 (type_bytes_of Three) refl) v.tree no_double (byte_of r NoDouble 44 v);
@@ -206,10 +210,10 @@ comma_without_doubles r off = record {
 comma_wants_three : (r : Rules) → r.limits.doubles ≡ true → r.version ≡ Two → IsCause r (codes ",") InVersion
 comma_wants_three r allowed is_two = record {
   viable_before = λ earlier h. record {
-    rest = codes "\r\n";
-    tree = leaf (line Double []);
-    spells = record { is_tree = (tt, tt); spelled = refl };
-    keeps = λ first g. before_version r first (leaf (line Double [])) (λ off. absurd (cc)) (omega arith);
+    rest = codes "0\r\n";
+    tree = leaf (line Double zero_digit);
+    spells = record { is_tree = zero_is_double; spelled = refl };
+    keeps = λ first g. before_version r first (leaf (line Double zero_digit)) (λ off. absurd (cc)) (omega arith);
   };
   not_viable = λ v.
       let in_version : HasVersion r.version v.tree = v.keeps InVersion (omega arith) in
@@ -217,28 +221,28 @@ comma_wants_three r allowed is_two = record {
       at_first_byte_of_two (λ b. b ≡ 44 → ⊥) (apart_by_test 44 type_bytes refl) v.tree in_two (byte_of r InVersion 44 v);
 }
 
--- an empty double meets each rule where doubles are allowed, in version 3
-empty_double_meets : (r : Rules) → r.limits.doubles ≡ true → r.version ≡ Three → AreBounds r.limits → (rule : Rule) → Meets r rule (leaf (line Double []))
-empty_double_meets r allowed is_three b Grammar = tt
-empty_double_meets r allowed is_three b NoDouble = λ off. absurd (cc)
-empty_double_meets r allowed is_three b InVersion = subst (λ w. HasVersion w (leaf (line Double []))) (sym is_three) tt
-empty_double_meets r allowed is_three b PushAtTop = tt
-empty_double_meets r allowed is_three b InRange = tt
-empty_double_meets r allowed is_three b NotStreamed = λ off. tt
-empty_double_meets r allowed is_three b WithinDepth = omega arith
-empty_double_meets r allowed is_three b WithinLength = omega arith
-empty_double_meets r allowed is_three b WithinItems = omega arith
-empty_double_meets r allowed is_three b WithinTotal = let h : 256 ≤ r.limits.total = b.total_in_range.0 in omega arith
+-- a zero double meets each rule where doubles are allowed, in version 3
+zero_double_meets : (r : Rules) → r.limits.doubles ≡ true → r.version ≡ Three → AreBounds r.limits → (rule : Rule) → Meets r rule (leaf (line Double zero_digit))
+zero_double_meets r allowed is_three b Grammar = tt
+zero_double_meets r allowed is_three b NoDouble = λ off. absurd (cc)
+zero_double_meets r allowed is_three b InVersion = subst (λ w. HasVersion w (leaf (line Double zero_digit))) (sym is_three) tt
+zero_double_meets r allowed is_three b PushAtTop = tt
+zero_double_meets r allowed is_three b InRange = tt
+zero_double_meets r allowed is_three b NotStreamed = λ off. tt
+zero_double_meets r allowed is_three b WithinDepth = omega arith
+zero_double_meets r allowed is_three b WithinLength = omega arith
+zero_double_meets r allowed is_three b WithinItems = omega arith
+zero_double_meets r allowed is_three b WithinTotal = let h : 256 ≤ r.limits.total = b.total_in_range.0 in omega arith
 
 pub a_comma_begins_a_double : ACommaBeginsADouble
 a_comma_begins_a_double r = (
   λ off. comma_without_doubles r off,
   λ allowed is_two. comma_wants_three r allowed is_two,
   λ allowed is_three b rule. record {
-    rest = codes "\r\n";
-    tree = leaf (line Double []);
-    spells = record { is_tree = (tt, tt); spelled = refl };
-    keeps = λ first g. empty_double_meets r allowed is_three b first;
+    rest = codes "0\r\n";
+    tree = leaf (line Double zero_digit);
+    spells = record { is_tree = zero_is_double; spelled = refl };
+    keeps = λ first g. zero_double_meets r allowed is_three b first;
   },
 )
 

@@ -3,6 +3,7 @@ use Rattle.std.specs.Prelude.{◌≡◌, ℕ, ◌+◌, ◌/◌, ◌^◌, ◌<◌
 use Rattle.std.proofs.Common.{neg_ℤ}
 use Rattle.resp_value.specs.Bounds.{Bounds}
 use Rattle.resp_value.specs.Bytes.{IsLine, IsText}
+use Rattle.resp_value.specs.Doubles.{IsDouble}
 use Rattle.resp_value.specs.Numbers.{Sign, Unsigned, Minus, decimal, IsKept}
 use Rattle.resp_value.specs.Data.{Kind, Array, Map, Attr, Push, Scalar, Datum, Data, scalar, aggregate, items_of, depth, longest, most_items}
 use Rattle.resp_value.specs.Data as d
@@ -67,7 +68,7 @@ IsScalarValue (d.Bool b) = Unit {0}
 IsScalarValue (d.Int i) = (neg_ℤ (pos (2 ^ 63)) ≤ℤ i) × (i <ℤ pos (2 ^ 63))
 IsScalarValue (d.Simple s) = IsLine s × IsText s
 IsScalarValue (d.Error s) = IsLine s × IsText s
-IsScalarValue (d.Double s) = IsLine s × IsText s
+IsScalarValue (d.Double s) = IsLine s × IsText s × IsDouble s
 IsScalarValue (d.Bulk s) = IsText s
 IsScalarValue (d.BulkError s) = IsText s
 IsScalarValue (d.Verbatim format s) = (length format ≡ 3) × IsText format × IsText s

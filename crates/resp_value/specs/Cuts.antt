@@ -9,14 +9,14 @@ use Rattle.resp_value.specs.declared.cut_value.CutValue.{CutValue}
 abbrev pub kept_part : ℕ → List ℕ → List ℕ
 kept_part shown text = take (suc shown) text
 
--- a value without members, with the first bytes of its text; the digits of a big number are all kept
+-- a value without members, with the first bytes of its text; doubles and the digits of big numbers are kept whole
 abbrev pub cut_scalar : ℕ → Scalar → Scalar
 cut_scalar shown d.Null = d.Null
 cut_scalar shown (d.Bool b) = d.Bool b
 cut_scalar shown (d.Int i) = d.Int i
 cut_scalar shown (d.Simple text) = d.Simple (kept_part shown text)
 cut_scalar shown (d.Error text) = d.Error (kept_part shown text)
-cut_scalar shown (d.Double text) = d.Double (kept_part shown text)
+cut_scalar shown (d.Double text) = d.Double text
 cut_scalar shown (d.Bulk text) = d.Bulk (kept_part shown text)
 cut_scalar shown (d.BulkError text) = d.BulkError (kept_part shown text)
 cut_scalar shown (d.Verbatim format text) = d.Verbatim format (kept_part shown text)
@@ -36,14 +36,14 @@ abbrev mutual
 abbrev pub longer : ℕ → ℕ → List ℕ
 longer shown count = if nat_lt shown count then count ∷ [] else []
 
--- the length of the text of a value without members, if it is longer; a big number has none
+-- the length of the text of a value without members, if it is longer; doubles and big numbers have none
 abbrev pub scalar_lengths : ℕ → Scalar → List ℕ
 scalar_lengths shown d.Null = []
 scalar_lengths shown (d.Bool b) = []
 scalar_lengths shown (d.Int i) = []
 scalar_lengths shown (d.Simple text) = longer shown (length text)
 scalar_lengths shown (d.Error text) = longer shown (length text)
-scalar_lengths shown (d.Double text) = longer shown (length text)
+scalar_lengths shown (d.Double text) = []
 scalar_lengths shown (d.Bulk text) = longer shown (length text)
 scalar_lengths shown (d.BulkError text) = longer shown (length text)
 scalar_lengths shown (d.Verbatim format text) = longer shown (length text)

@@ -11,6 +11,9 @@ use Rattle.resp_value.specs.Rules.{Rules, Rule, Grammar, NoDouble, InVersion, No
 use Rattle.resp_value.specs.LocalRules.{MeetsLocally}
 use Rattle.resp_value.specs.Bytes.{IsText}
 use Rattle.resp_value.specs.Numbers.{decimal}
+use Rattle.resp_value.specs.Doubles.{IsDouble}
+use Rattle.resp_value.specs.DoubleStages.{completes}
+use Rattle.resp_value.specs.declared.double_stage.DoubleStage.TheVariants.{Begun}
 use Rattle.resp_value.specs.Spellings.{IsSpelling, IsViable, IsCause, Cut, FaultOf}
 use Rattle.resp_value.specs.Canonical.{canonical_text, AllowsDoubles, IsValue, HasTypes, HasPushAtTop, HasNoDouble, Fits}
 use Rattle.resp_value.specs.Values.{datum_of}
@@ -172,6 +175,10 @@ abbrev pub ACommaBeginsADouble : Type 0
 ACommaBeginsADouble = (r : Rules) → (r.limits.doubles ≡ false → IsCause r (codes ",") NoDouble) ×
     (r.limits.doubles ≡ true → r.version ≡ Two → IsCause r (codes ",") InVersion) ×
     (r.limits.doubles ≡ true → r.version ≡ Three → AreBounds r.limits → (rule : Rule) → IsViable r rule (codes ","))
+
+-- a text is that of a double exactly if the stages of a double lead to a stage at which it may end
+abbrev pub StagesReadDoubles : Type 0
+StagesReadDoubles = (text : List ℕ) → IsDouble text ↔ IsTrue (completes Begun text)
 
 -- the same rules with doubles allowed or not
 abbrev pub with_doubles : Rules → Bool → Rules

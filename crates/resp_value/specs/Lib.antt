@@ -1,6 +1,8 @@
 pub mod Bytes
 pub mod Numbers
 pub mod Signs
+pub mod Doubles
+pub mod DoubleStages
 pub mod Data
 pub mod Kinds
 pub mod Trees

@@ -5,6 +5,7 @@ use Rattle.std.specs.List.{AllByRecursion}
 use Rattle.std.specs.Str.{byte}
 use Rattle.resp_value.specs.Bytes.{IsText, IsLine, IsFull, crlf}
 use Rattle.resp_value.specs.Numbers.{IsDigits, IsNumber, number, Sign, sign_text}
+use Rattle.resp_value.specs.Doubles.{IsDouble}
 use Rattle.resp_value.specs.Data.{Kind, Array, Set, Map, Attr, Push, members_of}
 
 -- the kinds of text on one line: a simple string, an error or a double
@@ -165,9 +166,14 @@ abbrev pub HasFormat : StringKind → Type 0
 HasFormat (Verbatim format) = (length format ≡ 3) × IsText format
 HasFormat _ = Unit {0}
 
+-- the text of a double is a number
+abbrev pub IsNumberIn : LineKind → List ℕ → Type 0
+IsNumberIn Double s = IsDouble s
+IsNumberIn _ s = Unit {0}
+
 -- the leaf is part of the grammar
 abbrev pub IsLeaf : Leaf → Type 0
-IsLeaf (line k s) = IsLine s × IsText s
+IsLeaf (line k s) = IsLine s × IsText s × IsNumberIn k s
 IsLeaf (numeral k sign digits) = IsDigits digits
 IsLeaf (string k digits s) = IsNumber (length (payload k s)) digits × HasFormat k × IsText s
 IsLeaf (chunked chunks zeros) = AllByRecursion IsChunk chunks × IsNumber 0 zeros

@@ -6,6 +6,7 @@ use Rattle.resp_value.specs.Data as d
 use Rattle.resp_value.specs.declared.line.Line.{Line}
 use Rattle.resp_value.specs.declared.content.Content.{Content}
 use Rattle.resp_value.specs.declared.digits.Digits.{Digits}
+use Rattle.resp_value.specs.declared.double.Double as double
 use Rattle.resp_value.specs.declared.value.Value.{Value, Row_of-Value, end_of-Value, more_of-Value, Row_of-PairList-pairs-2, end_of-PairList-pairs-2, more_of-PairList-pairs-2}
 use Rattle.resp_value.specs.declared.value.Members.{Members, out-Members}
 use Rattle.resp_value.specs.declared.value.PairList.{PairList, out-PairList}
@@ -14,6 +15,10 @@ use Rattle.resp_value.specs.declared.value.Value.TheVariants.{Null, Bool, Int, S
 -- the bytes of a line
 abbrev pub line_text : Line → List ℕ
 line_text line = line.text.items
+
+-- the text of a double
+abbrev pub double_text : double.Double → List ℕ
+double_text x = x.text.items
 
 -- the bytes of a content
 abbrev pub content_bytes : Content → List ℕ
@@ -48,7 +53,7 @@ abbrev mutual
   datum_of (Int i) = scalar (d.Int i)
   datum_of (Simple line) = scalar (d.Simple (line_text line))
   datum_of (Error line) = scalar (d.Error (line_text line))
-  datum_of (Double line) = scalar (d.Double (line_text line))
+  datum_of (Double x) = scalar (d.Double (double_text x))
   datum_of (Bulk content) = scalar (d.Bulk (content_bytes content))
   datum_of (BulkError content) = scalar (d.BulkError (content_bytes content))
   datum_of (Verbatim format content) = scalar (d.Verbatim format (content_bytes content))

@@ -6,12 +6,12 @@ use crate::value::Value;
 ///
 /// If `shown` bytes of each text are to be shown, `shown + 1` bytes of each text are kept. So a
 /// text of the value has more than `shown` bytes exactly if the text that was received had more.
-/// Big numbers are kept whole.
+/// Doubles and big numbers are kept whole.
 #[derive(Debug, PartialEq, Eq, Drop)]
 pub struct CutValue {
     /// The value, with the first bytes of each text.
     pub value: Value,
     /// The number of bytes of each text that had more than `shown` bytes when it was received, in
-    /// the order of the texts.
+    /// the order of the texts, without those of doubles and big numbers.
     pub lengths: Vec<u64>,
 }

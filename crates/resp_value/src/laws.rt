@@ -11,7 +11,7 @@ ghost use Rattle.resp_value.specs.Data.{depth, longest, most_items, scalar, Arra
 ghost use Rattle.resp_value.specs.Examples.{integer, simple, aggregate_of, IsSpelledInBoth, IsSpelledInThree, IsSpelledStreamed, IsSpelledWithDoubles, SpellsNothing, SpellsNothingInTwo, SpellsNothingSwitchedOff, SpellsNothingWithoutDoubles, HasCause, HasCauseInThree, IsCutWithFault};
 ghost use Rattle.resp_value.specs.Rules.{Grammar, PushAtTop};
 ghost use Rattle.resp_value.specs.declared.version.Version.TheVariants.{Two, Three};
-ghost use Rattle.resp_value.specs.Laws.{EqualValuesHaveEqualData, ATextHasOneValue, NoSpellingBeginsAnother, NoSpellingIsEmpty, DigitsAreThoseOfStd, APushBeginsWithItsByte, ATextHasOneCut, ARestHasOneFault, VersionThreeSpellsWhatTwoDoes, CanonicalTextSpellsWhatFits, CanonicalTextTellsValuesApart, WhatWasReadFitsButForTotal, WhatWasReadCanBeWritten, WhatWasReadCountedCanBeWritten, ACountedSpellingIsNoShorter, FrontsOfSpellingsAreViable, FrontsOfViableTextsAreViable, LaterRulesLeaveLess, ATextHasOneCause, AViableTextHasNoCause, RulesHoldAtEachNode, TextsOfTreesAreBytes, DefaultItemsRefuseNothing, TheEmptyTextIsViable, TypeBytesAreViable, LaterTypeBytesWantVersionThree, ACommaBeginsADouble, DoublesAreAllThatTheSwitchAdds, FrontsAreViableWithoutDoubles, NoOtherByteBeginsATree};
+ghost use Rattle.resp_value.specs.Laws.{EqualValuesHaveEqualData, ATextHasOneValue, NoSpellingBeginsAnother, NoSpellingIsEmpty, DigitsAreThoseOfStd, APushBeginsWithItsByte, ATextHasOneCut, ARestHasOneFault, VersionThreeSpellsWhatTwoDoes, CanonicalTextSpellsWhatFits, CanonicalTextTellsValuesApart, WhatWasReadFitsButForTotal, WhatWasReadCanBeWritten, WhatWasReadCountedCanBeWritten, ACountedSpellingIsNoShorter, FrontsOfSpellingsAreViable, FrontsOfViableTextsAreViable, LaterRulesLeaveLess, ATextHasOneCause, AViableTextHasNoCause, RulesHoldAtEachNode, TextsOfTreesAreBytes, DefaultItemsRefuseNothing, TheEmptyTextIsViable, TypeBytesAreViable, LaterTypeBytesWantVersionThree, ACommaBeginsADouble, StagesReadDoubles, DoublesAreAllThatTheSwitchAdds, FrontsAreViableWithoutDoubles, NoOtherByteBeginsATree};
 
 use crate::value::Value;
 
@@ -150,6 +150,12 @@ pub fn a_comma_begins_a_double()
     ensures { ACommaBeginsADouble }
 {}
 
+/// A text is a double exactly if its bytes lead, stage by stage, to a stage at which a double may
+/// end.
+pub fn stages_read_doubles()
+    ensures { StagesReadDoubles }
+{}
+
 /// If doubles are not allowed, the spellings are exactly the spellings with doubles allowed whose
 /// values contain no double. The switch changes nothing else.
 pub fn doubles_are_all_that_the_switch_adds()
@@ -203,9 +209,14 @@ pub fn texts_and_their_values()
     ensures streamed_map { IsSpelledStreamed (codes "%?\r\n+a\r\n:1\r\n.\r\n")
         (aggregate_of Map (simple (codes "a") ∷ integer (pos 1) ∷ [])) }
 
-    // A double is any line, even an empty one.
+    // A double is a number, an infinity or no number, and its value is its text.
     ensures double { IsSpelledWithDoubles (codes ",3.14\r\n") (scalar (Double (codes "3.14"))) }
-    ensures empty_double { IsSpelledWithDoubles (codes ",\r\n") (scalar (Double [])) }
+    ensures exponent { IsSpelledWithDoubles (codes ",-1E+20\r\n")
+        (scalar (Double (codes "-1E+20"))) }
+    ensures infinity { IsSpelledWithDoubles (codes ",-inf\r\n")
+        (scalar (Double (codes "-inf"))) }
+    ensures negative_nan { IsSpelledWithDoubles (codes ",-nan\r\n")
+        (scalar (Double (codes "-nan"))) }
 
     // An attribute together with the value that it annotates is one member.
     ensures attribute { IsSpelledInThree (codes "*1\r\n|1\r\n+a\r\n:1\r\n+b\r\n")
@@ -229,6 +240,15 @@ pub fn values_and_their_canonical_texts()
 pub fn texts_without_a_value()
     // An attribute needs a value that it annotates.
     ensures attribute_alone { SpellsNothing (codes "|0\r\n") }
+    // The text of a double is a number of the published grammar.
+    ensures empty_double { SpellsNothing (codes ",\r\n") }
+    ensures word_as_double { SpellsNothing (codes ",abc\r\n") }
+    ensures double_without_whole { SpellsNothing (codes ",.5\r\n") }
+    ensures double_without_fraction { SpellsNothing (codes ",1.\r\n") }
+    ensures double_without_exponent { SpellsNothing (codes ",1e+\r\n") }
+    ensures hexadecimal_double { SpellsNothing (codes ",0x1p3\r\n") }
+    ensures longer_infinity { SpellsNothing (codes ",infinity\r\n") }
+    ensures plus_infinity { SpellsNothing (codes ",+inf\r\n") }
     // Limits that do not allow doubles reject every double.
     ensures double { SpellsNothingWithoutDoubles (codes ",1.5\r\n") }
     // An integer has 64 bits.

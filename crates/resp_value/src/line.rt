@@ -1,4 +1,4 @@
-//! The text of a simple string, a simple error or a double: bytes without CR and LF.
+//! The text of a simple string or a simple error: bytes without CR and LF.
 
 ghost use Rattle.std.specs.Prelude.{◌≡◌, ◌↔◌, List, IsTrue, IsOk, IfOk, IfErr, All};
 ghost use Rattle.std.proofs.Props.{props};
@@ -7,8 +7,8 @@ ghost use Rattle.resp_value.specs.Bytes.{IsText, IsLine, IsPlain};
 use std::alloc::{AllocError, Global};
 use thiserror::Error;
 
-/// Bytes without CR and LF: the text of a simple string, a simple error or a double (Redis
-/// serialization protocol specification, "Simple strings", "Simple errors" and "Doubles").
+/// Bytes without CR and LF: the text of a simple string or a simple error (Redis
+/// serialization protocol specification, "Simple strings" and "Simple errors").
 #[derive(Debug, PartialEq, Eq, Drop)]
 pub struct Line {
     text: Vec<u8>,

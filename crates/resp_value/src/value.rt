@@ -5,6 +5,7 @@ ghost use Rattle.resp_value.specs.Values.{datum_of, pair_data, list_of, pairs_of
 
 use crate::content::Content;
 use crate::digits::Digits;
+use crate::double::Double;
 use crate::line::Line;
 use std::alloc::{AllocError, Global};
 
@@ -57,10 +58,9 @@ pub enum Value {
     Simple(Line),
     /// An error message without CR and LF ("Simple errors").
     Error(Line),
-    /// A double, kept as its text ("Doubles"). The text is not parsed as a number, and two doubles
-    /// are equal if their texts are equal. Doubles are read and written only if
-    /// `Limits::with_doubles` allows them.
-    Double(Line),
+    /// A double, kept as its text ("Doubles"). Two doubles are equal if their texts are equal.
+    /// Doubles are read and written only if `Limits::with_doubles` allows them.
+    Double(Double),
     /// A string of any bytes ("Bulk strings").
     Bulk(Content),
     /// An error message of any bytes ("Bulk errors").

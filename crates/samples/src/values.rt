@@ -2,7 +2,7 @@
 
 use anyhow::Result;
 use resp_io::{MemorySink, MemorySource, Source, write_all};
-use resp_value::{Command, Content, Digits, Limits, Line, PairList, Value};
+use resp_value::{Command, Content, Digits, Double, Limits, Line, PairList, Value};
 use std::alloc::Global;
 
 pub(crate) fn run(rt: &impl Print, alloc: Global) -> Result<()> {
@@ -10,6 +10,7 @@ pub(crate) fn run(rt: &impl Print, alloc: Global) -> Result<()> {
     skip_attributes(rt, alloc)?;
     make_limits(rt)?;
     make_lines(rt, alloc)?;
+    make_doubles(rt, alloc)?;
     make_digits(rt, alloc)?;
     make_command(rt, alloc)?;
     write_to_memory(rt, alloc)?;
@@ -46,6 +47,13 @@ fn make_lines(rt: &impl Print, alloc: Global) -> Result<()> {
     let pong = Line::new(Vec::from_slice(alloc, b"PONG")?)?;
     let two_lines = Line::new(Vec::from_slice(alloc, b"two\r\nlines")?);
     println!(rt; "{} {}", pong.text().escape_ascii(), two_lines.is_err())?;
+    Ok(())
+}
+
+fn make_doubles(rt: &impl Print, alloc: Global) -> Result<()> {
+    let score = Double::new(Vec::from_slice(alloc, b"1.5e3")?)?;
+    let word = Double::new(Vec::from_slice(alloc, b"1.5 seconds")?);
+    println!(rt; "{} {}", score.text().escape_ascii(), word.is_err())?;
     Ok(())
 }
 

@@ -16,7 +16,7 @@ pub(crate) fn add_value(said: &mut String, value: &Value) -> Result<(), AllocErr
         Value::Int(number) => write!(said, "int {number}"),
         Value::Simple(line) => add_text(said, "simple", line.text()),
         Value::Error(line) => add_text(said, "error", line.text()),
-        Value::Double(line) => add_text(said, "double", line.text()),
+        Value::Double(double) => add_text(said, "double", double.text()),
         Value::Bulk(content) => add_text(said, "bulk", content.list()),
         Value::BulkError(content) => add_text(said, "bulkerror", content.list()),
         Value::Verbatim(format, content) => {

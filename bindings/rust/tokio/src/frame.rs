@@ -19,7 +19,7 @@ pub enum Frame {
     Simple(Bytes),
     /// A simple error, without CR and LF.
     Error(Bytes),
-    /// A double, as its text. Nothing checks that it is a number.
+    /// A double, as its text: a number, `inf`, `-inf`, `nan` or `-nan`.
     Double(Bytes),
     /// A bulk string.
     Bulk(Bytes),

@@ -12,9 +12,8 @@ fn add(tally: &mut Tally, value: &Value) {
     match value {
         Value::Null | Value::Bool(_) => tally.add_value(),
         Value::Int(number) => tally.add_int(*number),
-        Value::Simple(line) | Value::Error(line) | Value::Double(line) => tally.add_text(
-            line.text(),
-        ),
+        Value::Simple(line) | Value::Error(line) => tally.add_text(line.text()),
+        Value::Double(double) => tally.add_text(double.text()),
         Value::Bulk(content) | Value::BulkError(content) | Value::Verbatim(_, content) => {
             tally.add_text(content.list())
         }

@@ -58,7 +58,7 @@ rest_least : (r : Rules) (vs : List Level) (fs : List Frame) → AreLevelsOf vs 
     HasLeast (MayFollowFrames (LeafKeeps r WithinItems) (NodeKeeps r WithinItems) fs) (between_needed vs)
 rest_least r [] [] a o = record {
   some = text shortest_tree;
-  holds = record { tree = shortest_tree; is_tree = (tt, tt); keep = shortest_keeps r WithinItems 0; whole = refl };
+  holds = record { tree = shortest_tree; is_tree = (tt, tt, tt); keep = shortest_keeps r WithinItems 0; whole = refl };
   size = refl;
   least = λ c w. omega (arith, text_at_least w.tree, ap length w.whole);
 }

@@ -1,19 +1,17 @@
 -- The bytes that are refused between values, and closes.
 use Rattle.std.proofs.Common.{◌++◌, ◌+◌, ◌<◌, ◌∙◌, ◌∷◌, ◌≡◌, ◌≤◌, List, [], ap, append_assoc, arith, length, refl, subst, suc, sym, ℕ}
-use Rattle.resp_value.specs.Bytes.{crlf}
 use Rattle.resp_value.specs.Data.{Array, Attr, Kind, Map, Push, Set, items_of, members_of}
 use Rattle.resp_value.specs.LocalRules.{LeafKeeps, NodeKeeps}
 use Rattle.resp_value.specs.Numbers.{number}
 use Rattle.resp_value.specs.Rules.{InVersion, NotStreamed, PushAtTop, Rule, Rules, WithinDepth, WithinItems, WithinLength, rank}
-use Rattle.resp_value.specs.Trees.{CanStream, Counted, Form, HasMembers, Streamed, close, count}
+use Rattle.resp_value.specs.Trees.{CanStream, Counted, Form, HasMembers, Streamed, count}
 use Rattle.resp_value.proofs.LocalRuleLemmas.{weaker_each}
 use Rattle.resp_fronts.specs.Frames.{Frame, text_around}
-use Rattle.resp_fronts.specs.LeastCompletions.{HasLeast}
 use Rattle.resp_fronts.specs.MayFollow.{CanAllEnd, IsWholeText, MayFollowFrames, members_missing}
 use Rattle.resp_fronts.proofs.Between.BetweenValues.{IsBetween, can_end_with_more, ready_open, room}
 use Rattle.resp_fronts.proofs.FrameLaws.Composition.{around-append, compose, determine}
 use Rattle.resp_fronts.proofs.FrameLaws.LeastAround.{after_least, are_kept, parts_follow}
-use Rattle.resp_fronts.proofs.FrameLaws.Levels.{IsEnded, finish, shape_needed, shape_needed_is, stopped}
+use Rattle.resp_fronts.proofs.FrameLaws.Levels.{shape_needed, shape_needed_is}
 use Rattle.resp_fronts.proofs.Refusals.RefusedFronts.{CompletesFront, IsRefused, fewer_rules_can_end, full_node, no_stop, no_stop_top, refuse}
 use Rattle.resp_fronts.proofs.FirstLines.CountRows.{CompletesUnder, IsRefusedHere}
 use Rattle.resp_fronts.proofs.FrameLaws.KeptNodes.{shortest_keeps}

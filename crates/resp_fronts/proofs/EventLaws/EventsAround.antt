@@ -1,8 +1,7 @@
 -- Events of what open frames have taken: as a head opens one, as a member of it ends, and as it closes.
-use Rattle.std.proofs.Common.{◌≡◌, ℕ, ◌+◌, List, [], ◌∷◌, ◌++◌, length, refl, sym, ap, ◌∙◌, arith, append_assoc, append-nil, length-append}
+use Rattle.std.proofs.Common.{◌≡◌, ℕ, ◌+◌, List, [], ◌∷◌, ◌++◌, length, sym, ap, ◌∙◌, arith, append_assoc, append-nil, length-append}
 use Rattle.resp_value.specs.Bytes.{crlf}
-use Rattle.resp_value.specs.Data.{Kind}
-use Rattle.resp_value.specs.Trees.{Tree, Trees, node, none, more, Form, text, texts, kind_byte, form_line}
+use Rattle.resp_value.specs.Trees.{Tree, Trees, node, none, more, text, texts, kind_byte, form_line}
 use Rattle.resp_fronts.specs.Frames.{Frame, open_text, text_around}
 use Rattle.resp_fronts.specs.Events.{events, events_each, open_event, close_event, frame_events, events_around}
 use Rattle.resp_fronts.proofs.FrameLaws.OpenFrames.{joined_trees}

@@ -7,13 +7,13 @@ use Rattle.resp_value.specs.Bytes.{crlf}
 use Rattle.resp_value.specs.Data.{Array, Attr, Kind, members_of}
 use Rattle.resp_value.specs.LocalRules.{LeafRule, NodeRule}
 use Rattle.resp_value.specs.Numbers.{IsDigit, IsDigits, number}
-use Rattle.resp_value.specs.Trees.{BulkError, BulkNull, CanStream, Counted, Form, HasFormat, IsTree, Simple, Streamed, StringKind, Tree, Verbatim, count, kind_byte, leaf, line, more, node, none, null, payload, string, string_byte, texts}
+use Rattle.resp_value.specs.Trees.{BulkError, BulkNull, CanStream, Counted, Form, HasFormat, IsTree, Simple, Streamed, StringKind, Tree, Verbatim, kind_byte, leaf, line, more, node, none, null, payload, string, string_byte, texts}
 use Rattle.resp_value.proofs.FirstLines.{after_line, first_line, form_of, leaf_of, node_of, sort, sort_of, string_sort, sort_of-line}
 use Rattle.resp_value.proofs.DigitLemmas.{number-digit}
 use Rattle.resp_value.proofs.DefaultLimits.{texts_at_least}
 use Rattle.resp_fronts.specs.LeastCompletions.{HasLeast}
 use Rattle.resp_fronts.specs.MayFollow.{CompletesValue}
-use Rattle.resp_fronts.proofs.FirstLines.BegunLines.{completes_line, tree_of_node}
+use Rattle.resp_fronts.proofs.FirstLines.BegunLines.{completes_line}
 use Rattle.resp_fronts.proofs.Tokens.CountedContent.{verbatim_kind}
 use Rattle.resp_fronts.proofs.FirstLines.FirstLineRows.{are_zeros, dollar_more, length-zeros, line_row, string_line, tree_of_string}
 use Rattle.resp_fronts.proofs.FrameLaws.OpenFrames.{shortest_trees}
@@ -107,7 +107,7 @@ pub attr_row : (L : LeafRule) (N : NodeRule) (k : ℕ) → N k Attr (Counted (48
     HasLeast (CompletesValue L N k (124 ∷ [])) 6
 unfolding first_line
 attr_row L N k g h = line_row L N k (124 ∷ []) (48 ∷ []) (node Attr (Counted (48 ∷ [])) (shortest_trees 1)) 4 ((λ e. omega arith, λ e. omega arith), tt)
-    (((omega arith, ((omega arith, omega arith), tt)), refl), ((tt, tt), tt)) (g, (h, tt)) refl refl
+    (((omega arith, ((omega arith, omega arith), tt)), refl), ((tt, tt, tt), tt)) (g, (h, tt)) refl refl
     (λ u l i j e. omega (arith, line_after u Attr l i e, attr_size u (form_of l) i e))
 
 mark_size : (u : Tree) (j : Kind) → IsTree u → sort_of u ≡ node_of j Streamed → 3 ≤ length (after_line u)

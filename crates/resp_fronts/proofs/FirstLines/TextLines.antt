@@ -3,7 +3,7 @@ use Rattle.std.proofs.Common.{◌≡◌, ℕ, ◌<◌, ◌≤◌, List, [], ◌�
 use Rattle.resp_value.specs.Bytes.{IsLine, IsText, crlf}
 use Rattle.resp_value.specs.Data.{content_length}
 use Rattle.resp_value.specs.TreeValues.{leaf_value}
-use Rattle.resp_value.specs.Trees.{leaf, line, LineKind, Simple, Error, Double, line_byte}
+use Rattle.resp_value.specs.Trees.{leaf, line, LineKind, Simple, Error, Double, line_byte, IsNumberIn}
 use Rattle.resp_value.specs.Rules.{Rules, Rule, WithinDepth, WithinLength, rank}
 use Rattle.resp_value.specs.LocalRules.{HoldsFrom, LeafKeeps, NodeKeeps, LeafMeets}
 use Rattle.resp_value.proofs.Splitting.{plain_above}
@@ -12,7 +12,7 @@ use Rattle.resp_fronts.specs.LeastCompletions.{HasLeast}
 use Rattle.resp_fronts.proofs.FirstLines.BegunLines.{line_least, completes_line, tree_of_line}
 use Rattle.resp_fronts.proofs.FrameLaws.KeptNodes.{at_each_rule, leaf_keeps}
 use Rattle.resp_fronts.proofs.FirstLines.CountRows.{CompletesUnder, IsRefusedHere}
-use Rattle.resp_fronts.specs.Tokens.{HasLine}
+use Rattle.resp_fronts.specs.Tokens.{HasAnyText, HasLine}
 
 -- such a line up to the limit of length is within every rule
 pub text_line_keeps : (r : Rules) (rule : Rule) (level : ℕ) (k : LineKind) (s : List ℕ) → HasLine r k → length s ≤ r.limits.length →
@@ -23,7 +23,7 @@ text_line_keeps r rule level Double s p fits = λ earlier e. at_each_rule (λ a.
     (λ is_two. absurd (p.0 is_two)) tt tt (λ off. tt) tt fits tt tt earlier
 
 -- and any is within the rules before that of length
-text_line_before : (r : Rules) (level : ℕ) (k : LineKind) (s : List ℕ) → HasLine r k → LeafKeeps r WithinDepth level (line k s)
+pub text_line_before : (r : Rules) (level : ℕ) (k : LineKind) (s : List ℕ) → HasLine r k → LeafKeeps r WithinDepth level (line k s)
 text_line_before r level Simple s p earlier = at_each_rule (λ a. rank a ≤ 6 → LeafMeets r a level (line Simple s)) (λ e. tt) (λ e. λ off. tt)
     (λ e. λ is_two. tt) (λ e. tt) (λ e. tt) (λ e. λ off. tt) (λ e. tt) (λ e. absurd (omega arith)) (λ e. tt) (λ e. tt) earlier
 text_line_before r level Error s p earlier = at_each_rule (λ a. rank a ≤ 6 → LeafMeets r a level (line Error s)) (λ e. tt) (λ e. λ off. tt)
@@ -43,22 +43,29 @@ pub sort_of_text : (k : LineKind) (s : List ℕ) → sort (line_byte k ∷ s) �
 sort_of_text Simple s = refl
 sort_of_text _ s = refl
 
--- `+`, `-` or `,` and any text: 2
-pub text_line_row : (r : Rules) (rule : Rule) (level : ℕ) (k : LineKind) (s : List ℕ) → HasLine r k → IsLine s → IsText s → length s ≤ r.limits.length →
-    HasLeast (CompletesUnder r rule level (line_byte k ∷ s)) 2
+-- a simple string or an error is no number
+pub any_number : (k : LineKind) (s : List ℕ) → HasAnyText k → IsNumberIn k s
+any_number Simple s any = tt
+any_number Error s any = tt
+any_number Double s any = absurd any
+
+-- `+` or `-` and any text: 2
+pub text_line_row : (r : Rules) (rule : Rule) (level : ℕ) (k : LineKind) (s : List ℕ) → HasLine r k → HasAnyText k → IsLine s → IsText s →
+    length s ≤ r.limits.length → HasLeast (CompletesUnder r rule level (line_byte k ∷ s)) 2
 unfolding first_line
-text_line_row r rule level k s p is_line is_text fits = line_least (LeafKeeps r rule) (NodeKeeps r rule) level (leaf (line k s)) 0 (is_line, is_text)
+text_line_row r rule level k s p any is_line is_text fits = line_least (LeafKeeps r rule) (NodeKeeps r rule) level (leaf (line k s)) 0
+    (is_line, is_text, any_number k s any)
     (text_line_keeps r rule level k s p fits) refl (λ u l i j e. omega arith)
 
-content_of_text : (k : LineKind) (s : List ℕ) → content_length (leaf_value (line k s)) ≡ length s
+pub content_of_text : (k : LineKind) (s : List ℕ) → content_length (leaf_value (line k s)) ≡ length s
 content_of_text Simple s = refl
 content_of_text Error s = refl
 content_of_text Double s = refl
 
 -- a byte past the limit of length
-pub text_line_too_long : (r : Rules) (level : ℕ) (k : LineKind) (s : List ℕ) → HasLine r k → IsLine s → IsText s → r.limits.length < length s →
-    IsRefusedHere r WithinLength WithinDepth level (line_byte k ∷ s)
-text_line_too_long r level k s p is_line is_text too_long = record {
+pub text_line_too_long : (r : Rules) (level : ℕ) (k : LineKind) (s : List ℕ) → HasLine r k → HasAnyText k → IsLine s → IsText s →
+    r.limits.length < length s → IsRefusedHere r WithinLength WithinDepth level (line_byte k ∷ s)
+text_line_too_long r level k s p any is_line is_text too_long = record {
   dead = λ c t. (let u = completes_line (LeafKeeps r WithinLength) (NodeKeeps r WithinLength) level (line_byte k ∷ s) c (line_has_no_break k s is_line) t in
       let e = tree_of_line u.tree k (s ++ u.line) (sort_of-line u.tree u.is_tree u.begins ∙ sort_of_text k (s ++ u.line)) in
       let kept : HoldsFrom (LeafKeeps r WithinLength) (NodeKeeps r WithinLength) level (leaf (line k (s ++ u.line))) =
@@ -66,6 +73,6 @@ text_line_too_long r level k s p is_line is_text too_long = record {
       let fits : content_length (leaf_value (line k (s ++ u.line))) ≤ r.limits.length = kept WithinLength (omega arith) in
       omega (arith, content_of_text k (s ++ u.line), length-append s u.line));
   rest = crlf [];
-  alive = record { tree = leaf (line k s); is_tree = (is_line, is_text); keep = text_line_before r level k s p; whole = refl };
+  alive = record { tree = leaf (line k s); is_tree = (is_line, is_text, any_number k s any); keep = text_line_before r level k s p; whole = refl };
   some = omega arith;
 }

@@ -1,12 +1,11 @@
 -- What may come after a value, from the levels alone: the front's bytes don't matter.
-use Rattle.std.proofs.Common.{◌++◌, ◌+◌, ◌∙◌, ◌∷◌, ◌≡◌, List, [], ap, arith, length, refl, subst, suc, sym, ℕ}
+use Rattle.std.proofs.Common.{◌++◌, ◌+◌, ◌∷◌, ◌≡◌, List, [], ap, arith, length, refl, subst, suc, ℕ}
 use Rattle.resp_value.specs.Bytes.{crlf}
 use Rattle.resp_value.specs.Data.{Kind, members_of}
 use Rattle.resp_value.specs.LocalRules.{HoldsFromEach, LeafRule, NodeRule}
 use Rattle.resp_value.specs.Numbers.{number}
 use Rattle.resp_value.specs.Trees.{AreTrees, CanStream, Counted, Form, HasMembers, Streamed, Trees, close, count, texts}
 use Rattle.resp_fronts.specs.Frames.{Frame}
-use Rattle.resp_fronts.specs.MayFollow.{CanAllEnd, CanEnd, MayFollowValue, members_missing}
 use Rattle.resp_fronts.specs.OpenLevels.{AreLevelsOf, HasShape, Level, Shape, to_come, so_far}
 
 -- that this many members may come after the open one

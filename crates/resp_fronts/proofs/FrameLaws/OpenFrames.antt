@@ -43,7 +43,7 @@ count-shortest_trees (suc n) = omega (arith, count-shortest_trees n)
 -- the shortest values are trees of the grammar
 pub are_shortest_trees : (n : ℕ) → AreTrees (shortest_trees n)
 are_shortest_trees zero = tt
-are_shortest_trees (suc n) = ((tt, tt), are_shortest_trees n)
+are_shortest_trees (suc n) = ((tt, tt, tt), are_shortest_trees n)
 
 first_node : (k : Kind) (f : Form) (ds : Trees) → first_line (node k f ds) ≡ kind_byte k ∷ form_line f
 unfolding first_line

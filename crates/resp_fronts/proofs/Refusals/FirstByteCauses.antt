@@ -13,6 +13,7 @@ use Rattle.resp_value.specs.Bounds.{AreBounds}
 use Rattle.resp_value.specs.Laws.{type_bytes, type_bytes_of}
 use Rattle.resp_value.specs.declared.version.Version.{Version}
 use Rattle.resp_value.specs.declared.version.Version.TheVariants.{Two, Three}
+use Rattle.resp_value.proofs.Doubles.{completes_double, is_double_leaf}
 use Rattle.resp_value.proofs.ByTests.{apart_by_test}
 use Rattle.resp_value.proofs.FirstBytes.{first_byte, first_byte_is, at_first_byte, at_first_byte_of_two}
 use Rattle.resp_value.proofs.Choices.{if_equal, if_within}
@@ -153,20 +154,23 @@ push_answered r level = later_answered r level 62 (push_refusal r level) (apart_
     cases (suc level) no_two = answered_by r PushAtTop InVersion (suc level) (62 ∷ []) refl
         (push_below r (suc level) (omega arith) (before_push (suc level) no_two))
 
+zero_is_double : IsLeaf (line Double (48 ∷ []))
+zero_is_double = is_double_leaf (48 ∷ []) (completes_double (48 ∷ []) refl)
+
 -- a double, which is of version 3 alone where doubles are allowed
-double_answered : (r : Rules) (level : ℕ) → IsAnswered r level (44 ∷ []) (double_refusal r)
-double_answered r level = cases r.limits.doubles refl
+double_answered : (r : Rules) (level : ℕ) → 64 ≤ r.limits.length → IsAnswered r level (44 ∷ []) (double_refusal r)
+double_answered r level roomy = cases r.limits.doubles refl
   where
-    before_version : r.limits.doubles ≡ true → LeafKeeps r NoDouble level (line Double [])
-    before_version allowed earlier = at_each_rule (λ a. rank a ≤ 1 → LeafMeets r a level (line Double [])) (λ e. tt) (λ e. λ off. absurd (cc))
-        (λ e. absurd (omega arith)) (λ e. tt) (λ e. tt) (λ e. absurd (omega arith)) (λ e. tt) (λ e. omega arith) (λ e. tt) (λ e. tt) earlier
+    before_version : r.limits.doubles ≡ true → LeafKeeps r NoDouble level (line Double (48 ∷ []))
+    before_version allowed earlier = at_each_rule (λ a. rank a ≤ 1 → LeafMeets r a level (line Double (48 ∷ []))) (λ e. tt) (λ e. λ off. absurd (cc))
+        (λ e. absurd (omega arith)) (λ e. tt) (λ e. tt) (λ e. absurd (omega arith)) (λ e. tt) (λ e. omega (arith, roomy)) (λ e. tt) (λ e. tt) earlier
 
     cases : (b : Bool) → r.limits.doubles ≡ b → IsAnswered r level (44 ∷ []) (cond b (refusal_in_three r.version None) (Some NoDouble))
     cases false off = answered_by r NoDouble Grammar level (44 ∷ []) refl (double_refused r level off)
     cases true allowed = later_answered r level 44 None (apart_by_test 44 type_bytes refl)
-        (leaf_goes_on r NoDouble level 44 (line Double []) (crlf []) (tt, tt) (before_version allowed) refl (omega arith))
-        (λ no_two. leaf_goes_on r WithinItems level 44 (line Double []) (crlf []) (tt, tt)
-        (text_line_keeps r WithinItems level Double [] (no_two, λ off. absurd (cc)) (omega arith)) refl (omega arith))
+        (leaf_goes_on r NoDouble level 44 (line Double (48 ∷ [])) (48 ∷ crlf []) zero_is_double (before_version allowed) refl (omega arith))
+        (λ no_two. leaf_goes_on r WithinItems level 44 (line Double (48 ∷ [])) (48 ∷ crlf []) zero_is_double
+        (text_line_keeps r WithinItems level Double (48 ∷ []) (no_two, λ off. absurd (cc)) (omega (arith, roomy))) refl (omega arith))
 
 -- what holds of a row, and of those after it
 pub and_rows : {A B : Type 0} → A → B → A × B
@@ -192,9 +196,9 @@ other_answered r level byte apart = (
 pub first_byte_answered : (r : Rules) (level byte : ℕ) → AreBounds r.limits → IsAnswered r level (byte ∷ []) (first_byte_refusal r level byte)
 first_byte_answered r level byte b =
     at_answer (λ x answer. IsAnswered r level (x ∷ []) answer) (first_byte_answers r level) (Some Grammar) byte
-    (and_rows (double_answered r level)
-    (and_rows (later_leaf_in_two r level 43 (line Simple []) (crlf []) (tt, tt) tt tt tt tt (omega arith) refl (omega arith))
-    (and_rows (later_leaf_in_two r level 45 (line Error []) (crlf []) (tt, tt) tt tt tt tt (omega arith) refl (omega arith))
+    (and_rows (double_answered r level b.length_in_range.0)
+    (and_rows (later_leaf_in_two r level 43 (line Simple []) (crlf []) (tt, tt, tt) tt tt tt tt (omega arith) refl (omega arith))
+    (and_rows (later_leaf_in_two r level 45 (line Error []) (crlf []) (tt, tt, tt) tt tt tt tt (omega arith) refl (omega arith))
     (and_rows (later_leaf_in_two r level 58 (numeral Int Unsigned (48 ∷ [])) (48 ∷ crlf []) zero_digits tt tt (range_in Unsigned (48 ∷ []) (omega arith)) tt
     (omega arith) refl (omega arith))
     (and_rows (later_leaf_in_two r level 36 (null BulkNull) (45 ∷ 49 ∷ crlf []) tt tt tt tt tt (omega arith) refl (omega arith))

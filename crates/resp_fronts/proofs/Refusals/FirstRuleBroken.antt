@@ -1,10 +1,9 @@
 -- A refusal under a rule, and none under the rule before, is a cause; and what total leaves.
-use Rattle.std.proofs.Common.{◌≡◌, ◌↔◌, ℕ, suc, ◌+◌, ◌<◌, ◌≤◌, List, length, arith}
-use Rattle.resp_value.specs.Rules.{Rules, Rule, Grammar, WithinItems, WithinTotal, rank}
+use Rattle.std.proofs.Common.{◌≡◌, ℕ, suc, ◌<◌, List, arith}
+use Rattle.resp_value.specs.Rules.{Rules, Rule, Grammar, WithinTotal, rank}
 use Rattle.resp_value.specs.Spellings.{IsViable, IsCause}
 use Rattle.resp_value.proofs.ViabilityLaws.{viable_earlier}
-use Rattle.resp_fronts.specs.LeastCompletions.{HasLeast, IsLeast}
-use Rattle.resp_fronts.proofs.FrameLaws.FrontLaws.{continues, whole_text, least_continues, viable_in_all}
+use Rattle.resp_fronts.proofs.FrameLaws.FrontLaws.{continues, whole_text}
 use Rattle.resp_fronts.proofs.Refusals.RefusedFronts.{CompletesFront, IsRefused}
 
 -- what can be completed within the rules at each node is viable

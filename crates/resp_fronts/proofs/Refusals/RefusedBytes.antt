@@ -7,6 +7,7 @@ use Rattle.resp_value.specs.LocalRules.{HoldsFrom, LeafKeeps, LeafMeets, NodeKee
 use Rattle.resp_value.specs.Numbers.{IsDigit, IsDigits, number}
 use Rattle.resp_value.specs.Rules.{Grammar, InVersion, NoDouble, NotStreamed, PushAtTop, Rule, Rules, WithinDepth, WithinTotal, rank}
 use Rattle.resp_value.specs.Trees.{Counted, Double, Form, count, kind_byte, leaf, line, node, texts}
+use Rattle.resp_value.proofs.Doubles.{completes_double, is_double_leaf}
 use Rattle.resp_value.proofs.FirstLines.{form_of, node_of, sort, sort_of-line}
 use Rattle.resp_fronts.proofs.FirstLines.BegunLines.{completes_line, counted_is, tree_of_line, tree_of_node}
 use Rattle.resp_fronts.proofs.FrameLaws.OpenFrames.{shortest_trees}
@@ -77,12 +78,17 @@ double_refused r k not_allowed = record {
       let a : HoldsFrom (LeafKeeps r NoDouble) (NodeKeeps r NoDouble) k (leaf (line Double u.line)) =
       subst (HoldsFrom (LeafKeeps r NoDouble) (NodeKeeps r NoDouble) k) e u.keep in
       a NoDouble (omega arith) not_allowed);
-  rest = crlf [];
-  alive = record { tree = leaf (line Double []); is_tree = (tt, tt); keep = λ h e. only h e; whole = refl };
+  rest = 48 ∷ crlf [];
+  alive = record {
+    tree = leaf (line Double (48 ∷ []));
+    is_tree = is_double_leaf (48 ∷ []) (completes_double (48 ∷ []) refl);
+    keep = λ h e. only h e;
+    whole = refl;
+  };
   some = omega arith;
 }
   where
-    only : (h : Rule) → rank h ≤ 0 → LeafMeets r h k (line Double [])
+    only : (h : Rule) → rank h ≤ 0 → LeafMeets r h k (line Double (48 ∷ []))
     only Grammar e = tt
     only WithinTotal e = tt
     only _ e = absurd (omega arith)

@@ -16,10 +16,9 @@ use Rattle.resp_fronts.proofs.FrameLaws.LeastAround as l
 use Rattle.resp_fronts.proofs.FrameLaws.LeastAround.{IsBegun, are_open}
 use Rattle.resp_fronts.proofs.FrameLaws.KeptNodes.{shortest_keeps}
 use Rattle.resp_fronts.proofs.FirstLines.CountRows.{CompletesUnder, IsRefusedHere}
-use Rattle.resp_fronts.proofs.FrameLaws.Levels.{IsEnded, finish, within_frames, levels_needed, levels_needed_is, ended, opened}
+use Rattle.resp_fronts.proofs.FrameLaws.Levels.{IsEnded, finish, levels_needed, levels_needed_is, ended}
 use Rattle.resp_fronts.proofs.FrameLaws.LevelsAlone.{same_length}
 use Rattle.resp_fronts.proofs.Refusals.RefusedFronts.{CompletesFront, IsRefused, refuse, hopeless, fewer_rules_can_end}
-use Rattle.resp_fronts.proofs.Between.BetweenValues.{IsBetween, HasRoom, begun_can_end}
 use Rattle.resp_fronts.proofs.Refusals.FirstRuleBroken.{refused_cause, grammar_cause}
 use Rattle.resp_fronts.specs.OpenLevels.{AreLevelsOf, HasShape, Level, Shape}
 

@@ -2,7 +2,7 @@
 use Rattle.std.proofs.Common.{◌≡◌, ℕ, suc, ◌+◌, ◌-◌, ◌*◌, ◌<◌, ◌≤◌, List, [], ◌∷◌, ◌++◌, length, refl, sym, ap, subst, ◌∙◌, arith, append_assoc, length-append}
 use Rattle.resp_value.specs.Numbers.{IsDigit, IsDigits, number}
 use Rattle.resp_value.specs.Data.{Kind, members_of, items_of}
-use Rattle.resp_value.specs.Trees.{node, none, string, StringKind, Bulk, BulkError, Verbatim, Counted, string_byte, kind_byte, payload, texts, HasFormat}
+use Rattle.resp_value.specs.Trees.{string, StringKind, Bulk, BulkError, Verbatim, Counted, string_byte, kind_byte, payload, texts, HasFormat}
 use Rattle.resp_value.specs.Rules.{Rules, Rule, Grammar, WithinLength, WithinItems}
 use Rattle.resp_value.specs.LocalRules.{LeafKeeps, NodeKeeps}
 use Rattle.resp_value.proofs.FirstBytes.{all_append}

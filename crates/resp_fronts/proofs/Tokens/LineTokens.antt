@@ -11,9 +11,9 @@ use Rattle.resp_fronts.proofs.FirstLines.CountRows.{CompletesUnder, IsRefusedHer
 use Rattle.resp_fronts.proofs.FirstLines.FirstLineRows.{line_row}
 use Rattle.resp_fronts.proofs.FirstLines.ShortRows.{next_row}
 use Rattle.resp_fronts.proofs.Refusals.BrokenLines.{after_return_broken, newline_broken, byte_broken, NoLineGoesOn}
-use Rattle.resp_fronts.proofs.FirstLines.TextLines.{text_line_keeps, text_line_too_long}
+use Rattle.resp_fronts.proofs.FirstLines.TextLines.{any_number, text_line_keeps, text_line_too_long}
 use Rattle.resp_fronts.proofs.Tokens.BegunFronts.{IsBegunBy}
-use Rattle.resp_fronts.specs.Tokens.{IsLineOf, IsReturned, HasLine, IsTextToken}
+use Rattle.resp_fronts.specs.Tokens.{IsLineOf, IsReturned, HasAnyText, HasLine, IsTextToken}
 
 -- it has no break in it
 pub no_break_in_line : (r : Rules) (l : Leaf) (level : ℕ) (bytes : List ℕ) → IsLineOf r l level bytes → IsLine bytes
@@ -81,7 +81,7 @@ line_broken_by_newline r l level bytes rest w c = newline_broken (LeafKeeps r Gr
 pub text_token_line : (r : Rules) (k : LineKind) (n level : ℕ) (bytes : List ℕ) → (w : IsTextToken r k n level bytes) →
     IsLineOf r (line k w.content) level bytes
 text_token_line r k n level bytes w = record {
-  is_leaf = (w.is_line, w.is_text);
+  is_leaf = (w.is_line, w.is_text, any_number k w.content w.any_text);
   keeps =
       text_line_keeps r WithinItems level k w.content w.has_line (omega (arith, w.size, w.fits));
   is_line = w.are;
@@ -89,8 +89,9 @@ text_token_line r k n level bytes w = record {
 }
 
 -- its type byte
-unfoldable pub text_token_begins : (r : Rules) (k : LineKind) (level : ℕ) → HasLine r k → IsTextToken r k 0 level (line_byte k ∷ [])
-text_token_begins r k level p = record { content = []; has_line = p; is_line = tt; is_text = tt; size = refl; fits = omega arith; are = refl }
+unfoldable pub text_token_begins : (r : Rules) (k : LineKind) (level : ℕ) → HasLine r k → HasAnyText k →
+    IsTextToken r k 0 level (line_byte k ∷ [])
+text_token_begins r k level p any = record { content = []; has_line = p; any_text = any; is_line = tt; is_text = tt; size = refl; fits = omega arith; are = refl }
 
 -- text more, within the limit of length
 unfoldable pub text_token_more : (r : Rules) (k : LineKind) (n level : ℕ) (bytes part : List ℕ) → IsTextToken r k n level bytes → IsLine part → IsText part →
@@ -98,6 +99,7 @@ unfoldable pub text_token_more : (r : Rules) (k : LineKind) (n level : ℕ) (byt
 text_token_more r k n level bytes part w plain are_bytes fits = record {
   content = w.content ++ part;
   has_line = w.has_line;
+  any_text = w.any_text;
   is_line = all_append IsPlain w.content part w.is_line plain;
   is_text = all_append IsByte w.content part w.is_text are_bytes;
   size = omega (arith, w.size, length-append w.content part);
@@ -111,6 +113,6 @@ pub text_token_over : (r : Rules) (k : LineKind) (n level : ℕ) (bytes : List �
     IsRefusedHere r WithinLength WithinDepth level (line_byte k ∷ (w.content ++ byte ∷ []))
 text_token_over r k n level bytes byte plain is_byte full w = (
   ap (λ z. z ++ byte ∷ []) w.are,
-  text_line_too_long r level k (w.content ++ byte ∷ []) w.has_line (all_append IsPlain w.content (byte ∷ []) w.is_line (plain, tt))
+  text_line_too_long r level k (w.content ++ byte ∷ []) w.has_line w.any_text (all_append IsPlain w.content (byte ∷ []) w.is_line (plain, tt))
       (all_append IsByte w.content (byte ∷ []) w.is_text (is_byte, tt)) (omega (arith, w.size, length-append w.content (byte ∷ []))),
 )

@@ -1,5 +1,5 @@
 -- The `?` of streamed forms: what refuses it, its least completion, and how it opens an aggregate.
-use Rattle.std.proofs.Common.{◌≡◌, ℕ, ◌+◌, ◌<◌, ◌≤◌, false, List, [], ◌∷◌, ◌++◌, refl, subst, ◌∙◌, arith}
+use Rattle.std.proofs.Common.{◌≡◌, ℕ, ◌<◌, ◌≤◌, false, List, [], ◌∷◌, ◌++◌, refl, subst, ◌∙◌, arith}
 use Rattle.resp_value.specs.Bytes.{IsLine, crlf}
 use Rattle.resp_value.specs.Data.{Kind, Array, items_of}
 use Rattle.resp_value.specs.Trees.{leaf, node, none, Chunk, chunked, Streamed, kind_byte, count, CanStream}
@@ -8,14 +8,12 @@ use Rattle.resp_value.specs.LocalRules.{HoldsFrom, LeafKeeps, NodeKeeps, LeafMee
 use Rattle.resp_value.specs.declared.version.Version.TheVariants.{Two}
 use Rattle.resp_value.proofs.Splitting.{plain_above}
 use Rattle.resp_value.proofs.FirstLines.{sort_of-line}
-use Rattle.resp_fronts.specs.MayFollow.{members_missing}
 use Rattle.resp_fronts.proofs.FrameLaws.KeptNodes.{at_each_rule, leaf_keeps, node_keeps}
 use Rattle.resp_fronts.proofs.FirstLines.BegunLines.{completes_line, tree_of_node}
 use Rattle.resp_fronts.proofs.FirstLines.CountRows.{IsRefusedHere, byte_line}
 use Rattle.resp_fronts.proofs.FirstLines.FirstLineRows.{tree_of_chunked, chunked_row, zero_digits}
 use Rattle.resp_fronts.proofs.FirstLines.MoreFirstLineRows.{sort_mark, mark_row}
-use Rattle.resp_fronts.proofs.Tokens.BegunFronts.{IsBegunBy, Opens, begun_by}
-use Rattle.resp_fronts.specs.OpenLevels.{so_far}
+use Rattle.resp_fronts.proofs.Tokens.BegunFronts.{IsBegunBy, begun_by}
 use Rattle.resp_fronts.specs.Tokens.{HasStreamed}
 
 -- `$?`: 6

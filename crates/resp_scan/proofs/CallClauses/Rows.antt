@@ -19,7 +19,7 @@ use Rattle.resp_fronts.proofs.Tokens.StreamedHeads.{streamed_string_begun}
 use Rattle.resp_fronts.specs.Tokens.{zeros}
 use Rattle.resp_scan.specs.declared.machine.Head.{Head}
 use Rattle.resp_scan.specs.declared.machine.Head.TheVariants as head
-use Rattle.resp_scan.specs.Machine.Tokens.{Token, Place, InLine, AtLineLf, AtIntSign, AtIntFirst, InInt, AtIntLf, AtBigSign, AtBigFirst, InBigZeros, AtBigZeroLf, AtBigDigit, InBig, AtTextEnd, AtNullOne, AtNullCr, AtNullLf, AtBool, AtBoolCr, AtBoolLf, AtBulkHead, AtArrayHead, AtHead, InHead, AtHeadLf, AtFormat, AtFormatSecond, AtFormatThird, AtFormatColon, InContent, AtContentCr, AtContentLf, AtStreamCr, AtStreamLf, AtChunk, InChunk, AtChunkCr, AtChunkLf, AtOpenCr, AtOpenLf}
+use Rattle.resp_scan.specs.Machine.Tokens.{Token, Place, InLine, InDouble, AtLineLf, AtIntSign, AtIntFirst, InInt, AtIntLf, AtBigSign, AtBigFirst, InBigZeros, AtBigZeroLf, AtBigDigit, InBig, AtTextEnd, AtNullOne, AtNullCr, AtNullLf, AtBool, AtBoolCr, AtBoolLf, AtBulkHead, AtArrayHead, AtHead, InHead, AtHeadLf, AtFormat, AtFormatSecond, AtFormatThird, AtFormatColon, InContent, AtContentCr, AtContentLf, AtStreamCr, AtStreamLf, AtChunk, InChunk, AtChunkCr, AtChunkLf, AtOpenCr, AtOpenLf}
 use Rattle.resp_scan.specs.Machine.Heads.{first_needed, head_needed}
 use Rattle.resp_scan.specs.Kinds.{rules_of}
 use Rattle.resp_scan.specs.Machine.Beginnings.{TokenHas, ContentBegun, FormatBegun, HeadBegun, HeadCounts, HeadReturned}
@@ -31,6 +31,7 @@ use Rattle.resp_scan.proofs.HeadMoves.ChunkHeadsLead.{returned_needed}
 use Rattle.resp_scan.proofs.TokenMoves.ChunksBegun.{are_whole}
 use Rattle.resp_scan.proofs.HeadMoves.CountsLead as count
 use Rattle.resp_scan.proofs.HeadMoves.HeadsLead.{aggregate_row, end_row, stream_row, attribute_row}
+use Rattle.resp_scan.proofs.TokenMoves.DoublesLead.{double_row}
 use Rattle.resp_scan.proofs.TokenMoves.LinesLead.{line_row}
 use Rattle.resp_scan.proofs.TokenMoves.LiteralsLead.{null_first_row}
 use Rattle.resp_scan.proofs.TokenMoves.NumbersLead.{begun_row, int_row}
@@ -112,6 +113,7 @@ token_row : (s : Place) (token : Token) (level : ℕ) (bytes : List ℕ) (shown 
     (token ≡ AtTextEnd → ⊥) → level ≡ length s.frames → TokenHas (rules_of s) token level bytes shown →
     IsBegunBy (rules_of s) level bytes (token_needed token s.bounds.depth s.frames)
 token_row s (InLine room) level bytes shown c f more i w = line_row (rules_of s) room level bytes shown w
+token_row s (InDouble stage room) level bytes shown c f more i w = double_row (rules_of s) stage room level bytes shown w
 token_row s AtLineLf level bytes shown c f more i w = returned_begun (rules_of s) w.leaf level bytes w.returned
 token_row s AtIntSign level bytes shown c f more i w = number_begun (rules_of s) t.Int Unsigned level bytes w.0
 token_row s (AtIntFirst negative) level bytes shown c f more i w = begun_row (rules_of s) t.Int negative level bytes shown w

@@ -1,11 +1,16 @@
 -- A text that lies in the piece: its head, its content and its CR LF.
 use Rattle.std.specs.Prelude.{take, drop, get_or, min, eqb, cond}
 use Rattle.std.specs.Str.{byte}
-use Rattle.std.proofs.Common.{◌≡◌, ℕ, suc, ◌+◌, ◌-◌, ◌<◌, ◌≤◌, List, [], ◌∷◌, ◌++◌, length, reverse, refl, sym, ap, subst, ◌∙◌, arith, zero-add, add-one, drop-cons, append_assoc, append-nil}
+use Rattle.std.proofs.Common.{◌≡◌, ℕ, suc, ◌+◌, ◌-◌, ◌<◌, ◌≤◌, Some, List, [], ◌∷◌, ◌++◌, length, reverse, refl, sym, ap, subst, ◌∙◌, arith, zero-add, add-one, drop-cons, append_assoc, append-nil}
 use Prim.Native.Nat.{zero}
 use Rattle.std.proofs.lemmas.Grind.{common_steps}
 use Rattle.std.proofs.lemmas.List.{drop-take, length-drop, length-take-le, take-append-drop}
 use Rattle.resp_value.specs.Bytes.{IsLine, IsText}
+use Rattle.resp_value.specs.Doubles.{IsDouble}
+use Rattle.resp_value.specs.DoubleStages.{may_end, stage_after_all, stage_needs}
+use Rattle.resp_value.specs.declared.double_stage.DoubleStage.{DoubleStage}
+use Rattle.resp_value.specs.declared.double_stage.DoubleStage.TheVariants as stage
+use Rattle.resp_value.proofs.Doubles.{completes_double}
 use Rattle.resp_fronts.specs.Events as e
 use Rattle.resp_scan.specs.declared.event.TextKind.{TextKind}
 use Rattle.resp_scan.specs.declared.event.TextKind.TheVariants as kind
@@ -19,20 +24,20 @@ use Rattle.resp_scan.specs.Kinds.{content_events, rules_of, text_kind_of}
 use Rattle.resp_scan.specs.Reading.{AreDue, Events, HasRead}
 use Rattle.resp_scan.specs.Listening.{IsTextOf, whole_text_events}
 use Rattle.resp_scan.specs.Machine.Fields.{out_by, out_of, place_of, token_at}
-use Rattle.resp_scan.specs.Machine.Tokens.{Place, Text, TextEnd, at, at_boundary, InLine, InContent}
+use Rattle.resp_scan.specs.Machine.Tokens.{Place, Text, TextEnd, at, at_boundary, InDouble, InLine, InContent}
 use Rattle.resp_scan.specs.Machine.Heads.{content_at}
 use Rattle.resp_scan.specs.Machine.Room.{total_room}
-use Rattle.resp_scan.specs.Machine.Runs.{plain_run}
+use Rattle.resp_scan.specs.Machine.Runs.{plain_run, double_run}
 use Rattle.resp_scan.specs.Machine.Scan.{Bad, Gave, Part, out_from}
 use Rattle.resp_scan.specs.Machine.Sound.{IsSound, IsTokenSound}
 use Rattle.resp_scan.specs.Machine.StepOutcomes.{after_bytes}
 use Rattle.resp_scan.specs.Machine.Passing.{TellsText}
-use Rattle.resp_scan.specs.Machine.Turns.{EndsAt, IsLineTag, LeavesContent}
+use Rattle.resp_scan.specs.Machine.Turns.{EndsAt, EndsDouble, IsLineTag, LeavesContent}
 use Rattle.resp_scan.proofs.CallClauses.Turns.{from_dead, reads_more, shows}
 use Rattle.resp_scan.proofs.Soundness.Counted.{counted_out}
 use Rattle.resp_scan.proofs.Soundness.Kept.{IsOut, is_advanced}
 use Rattle.resp_scan.proofs.Soundness.Pieces.{used_within}
-use Rattle.resp_scan.proofs.Soundness.Runs.{content_part, line_part, plain_run_le}
+use Rattle.resp_scan.proofs.Soundness.Runs.{content_part, double_part, double_run_stage, line_part, plain_run_le}
 use Rattle.resp_value.proofs.Choices.{if_equal}
 
 -- the piece after a run that CR LF follow
@@ -190,14 +195,12 @@ whole_text s m m' n run k t p text sound here ends runs ends_text rules there wi
 pub line_tag : (w : EventTag) (k : TextKind) (n : ℕ) (m : Machine) → IsLineTag w k → out_by w n m ≡ Gave n (Text k) (place_of m)
 line_tag tag.Simple k n m is = ap (λ x. Gave n (Text x) (place_of m)) (sym is)
 line_tag tag.Error k n m is = ap (λ x. Gave n (Text x) (place_of m)) (sym is)
-line_tag tag.Double k n m is = ap (λ x. Gave n (Text x) (place_of m)) (sym is)
 line_tag w k n m is = absurd is
 
 -- a line is the text of its kind
 pub line_text_is : (w : EventTag) (k : TextKind) (bytes : List ℕ) → IsLineTag w k → IsLine bytes → IsTextOf k bytes
 line_text_is tag.Simple k bytes is line = subst (λ x. IsTextOf x bytes) (sym is) line
 line_text_is tag.Error k bytes is line = subst (λ x. IsTextOf x bytes) (sym is) line
-line_text_is tag.Double k bytes is line = subst (λ x. IsTextOf x bytes) (sym is) line
 line_text_is w k bytes is line = absurd is
 
 -- A line that lies in the piece.
@@ -218,6 +221,83 @@ line_tells s m m' taken run k p text sound line out is_line ends run_is machine 
     let size : n ≤ length p = (used_within taken m s p sound out).0 in
     whole_text s m m' n run k t p text sound (sym (line_tag taken.tag k n m line) ∙ out) ends runs
     (line_ends (after_bytes run (after_bytes n (place_of m))) (m.room - run)) refl there
+    (omega (arith, ends.within, length-drop n p, size))
+
+-- Doubles.
+
+-- CR LF end a double at a stage at which it may end
+pub double_ends : (t : Place) (room : ℕ) (at_stage : DoubleStage) → stage_needs at_stage ≡ 0 → EndsText (at t (InDouble at_stage room))
+double_ends t room stage.Whole none more = refl
+double_ends t room stage.Fraction none more = refl
+double_ends t room stage.Exponent none more = refl
+double_ends t room stage.Named none more = refl
+double_ends t room stage.Begun none more = absurd (omega (arith, none))
+double_ends t room stage.Plus none more = absurd (omega (arith, none))
+double_ends t room stage.Minus none more = absurd (omega (arith, none))
+double_ends t room stage.Point none more = absurd (omega (arith, none))
+double_ends t room stage.Mark none more = absurd (omega (arith, none))
+double_ends t room stage.MarkSign none more = absurd (omega (arith, none))
+double_ends t room stage.I none more = absurd (omega (arith, none))
+double_ends t room stage.In none more = absurd (omega (arith, none))
+double_ends t room stage.N none more = absurd (omega (arith, none))
+double_ends t room stage.Na none more = absurd (omega (arith, none))
+
+-- the bytes of a run that begins with a double lead to its stage
+run_leads : (total room run : ℕ) (p : List ℕ) → EndsDouble (double_run 0 total room stage.Begun p) run →
+    stage_after_all stage.Begun (take run p) ≡ Some (double_run 0 total room stage.Begun p).stage
+run_leads total room run p ends =
+    let r = double_run 0 total room stage.Begun p in
+    let count : run ≡ r.count - 0 = omega (arith, ends.counts) in
+    ap (λ n. stage_after_all stage.Begun (take n p)) count ∙ double_run_stage 0 total room stage.Begun p
+
+-- they are the text of a double
+pub run_is_double : (total room run : ℕ) (p : List ℕ) → EndsDouble (double_run 0 total room stage.Begun p) run → IsDouble (take run p)
+run_is_double total room run p ends = completes_double (take run p) (ap may_end (run_leads total room run p ends) ∙ ap (λ n. eqb n 0) ends.may_end)
+
+-- and there is at least one
+run_has_some : (total room run : ℕ) (p : List ℕ) → EndsDouble (double_run 0 total room stage.Begun p) run → 0 < run
+run_has_some total room zero p ends =
+    let same : Some stage.Begun ≡ Some (double_run 0 total room stage.Begun p).stage = run_leads total room zero p ends in
+    let begun : stage.Begun ≡ (double_run 0 total room stage.Begun p).stage = cc in
+    absurd (omega (arith, ap stage_needs begun, ends.may_end))
+run_has_some total room (suc run) p ends = omega arith
+
+-- the content of a double
+double_runs : (t : Place) (n room run : ℕ) (p : List ℕ) (ends : EndsDouble (double_run 0 (total_room t - n) room stage.Begun p) run) →
+    RunsTo (after_bytes n (at t (InDouble stage.Begun room)))
+    (after_bytes n (at t (InDouble (double_run 0 (total_room t - n) room stage.Begun p).stage (double_run 0 (total_room t - n) room stage.Begun p).room))) p run
+double_runs t n room run p ends =
+    let u = after_bytes n t in
+    let r = double_run 0 (total_room t - n) room stage.Begun p in
+    let rooms : total_room t - n ≡ total_room u = omega arith in
+    let is : r ≡ double_run 0 (total_room u) room stage.Begun p = ap (λ m. double_run 0 m room stage.Begun p) rooms in
+    let some = run_has_some (total_room t - n) room run p ends in (
+      λ more. ap (λ k. Part 0 k (at u (InDouble r.stage r.room))) (sym ends.counts) ∙
+          sym (double_part u room stage.Begun p r is (omega (arith, ends.counts, some))),
+      λ none. absurd (omega (arith, some, none)),
+    )
+
+-- A double that lies in the piece.
+pub double_tells : (s : Place) (m m' : Machine) (taken : Advance) (run : ℕ) (p : List ℕ) → IsText p → IsSound s → taken.tag ≡ tag.Double →
+    out_of taken m ≡ out_from s p → m.state ≡ state.Double → m.stage ≡ stage.Begun → EndsAt (drop taken.used p) run →
+    EndsDouble (double_run 0 (total_room (place_of m) - taken.used) m.room stage.Begun (drop taken.used p)) run →
+    m' ≡ record m { taken = m.taken + (taken.used + run + 2); state = state.Boundary } →
+    TellsText s (place_of m') p (taken.used + run + 2) kind.Double (take run (drop taken.used p))
+double_tells s m m' taken run p text sound double out is_double begun ends run_ends machine =
+    let n = taken.used in
+    let r = double_run 0 (total_room (place_of m) - n) m.room stage.Begun (drop n p) in
+    let here : Gave n (Text kind.Double) (place_of m) ≡ out_from s p = ap (λ x. out_by x n m) (sym double) ∙ out in
+    let place : place_of m ≡ at (place_of m) (InDouble stage.Begun m.room) = ap (λ x. record (place_of m) { token = token_at x m }) is_double ∙
+    ap (λ x. at (place_of m) (InDouble x m.room)) begun in
+    let t = after_bytes n (at (place_of m) (InDouble r.stage r.room)) in
+    let runs : RunsTo (after_bytes n (place_of m)) t (drop n p) run =
+    subst (λ x. RunsTo (after_bytes n x) t (drop n p) run) (sym place) (double_runs (place_of m) n m.room run (drop n p) run_ends) in
+    let there : after_bytes 2 (at_boundary (after_bytes run t)) ≡ place_of m' =
+    ap (λ j. record (at_boundary (place_of m)) { taken = j }) (let z : ((m.taken + n) + run) + 2 ≡ m.taken + (n + run + 2) = omega arith in z) ∙
+    ap place_of (sym machine) in
+    let size : n ≤ length p = (used_within taken m s p sound out).0 in
+    whole_text s m m' n run kind.Double t p text sound here ends runs
+    (double_ends (after_bytes run (after_bytes n (place_of m))) r.room r.stage run_ends.may_end) refl there
     (omega (arith, ends.within, length-drop n p, size))
 
 -- Counted content.

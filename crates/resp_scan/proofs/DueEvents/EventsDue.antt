@@ -11,7 +11,7 @@ use Rattle.resp_fronts.specs.Events.{Event, all_events, events_due}
 use Rattle.resp_fronts.specs.Tokens.{zeros}
 use Rattle.resp_scan.specs.declared.machine.Head.{Head}
 use Rattle.resp_scan.specs.declared.machine.Head.TheVariants as head
-use Rattle.resp_scan.specs.Machine.Tokens.{Token, Place, AtStart, AtEnd, InLine, AtLineLf, AtIntSign, AtIntFirst, InInt, AtIntLf, AtBigSign, AtBigFirst, InBigZeros, AtBigZeroLf, AtBigDigit, InBig, AtTextEnd, AtNullOne, AtNullCr, AtNullLf, AtBool, AtBoolCr, AtBoolLf, AtBulkHead, AtArrayHead, AtHead, InHead, AtHeadLf, AtFormat, AtFormatSecond, AtFormatThird, AtFormatColon, InContent, AtContentCr, AtContentLf, AtStreamCr, AtStreamLf, AtChunk, InChunk, AtChunkCr, AtChunkLf, AtOpenCr, AtOpenLf, AtCloseCr, AtCloseLf, at}
+use Rattle.resp_scan.specs.Machine.Tokens.{Token, Place, AtStart, AtEnd, InLine, InDouble, AtLineLf, AtIntSign, AtIntFirst, InInt, AtIntLf, AtBigSign, AtBigFirst, InBigZeros, AtBigZeroLf, AtBigDigit, InBig, AtTextEnd, AtNullOne, AtNullCr, AtNullLf, AtBool, AtBoolCr, AtBoolLf, AtBulkHead, AtArrayHead, AtHead, InHead, AtHeadLf, AtFormat, AtFormatSecond, AtFormatThird, AtFormatColon, InContent, AtContentCr, AtContentLf, AtStreamCr, AtStreamLf, AtChunk, InChunk, AtChunkCr, AtChunkLf, AtOpenCr, AtOpenLf, AtCloseCr, AtCloseLf, at}
 use Rattle.resp_scan.specs.Kinds.{rules_of}
 use Rattle.resp_scan.specs.Machine.Beginnings as b
 use Rattle.resp_scan.specs.Machine.Standing.{IsInside, StandsAfterAt, StandsAfter}
@@ -22,7 +22,7 @@ use Rattle.resp_scan.proofs.TokenMoves.BigNumbersLead.{big_digit_is_owed}
 use Rattle.resp_scan.proofs.DueEvents.ChunksDue.{chunk_due, chunks_due, length_in_line, mark_in_line, none_in_line, returned_in_line}
 use Rattle.resp_scan.proofs.DueEvents.ContentDue.{content_due, content_returned_due, format_due}
 use Rattle.resp_scan.proofs.DueEvents.InsideDue.{AreDueWithin, inside_due}
-use Rattle.resp_scan.proofs.DueEvents.LinesDue.{line_begun_due, text_returned_due}
+use Rattle.resp_scan.proofs.DueEvents.LinesDue.{double_begun_due, line_begun_due, text_returned_due}
 use Rattle.resp_scan.proofs.DueEvents.OutsideDue.{AreDue, at_end_due, between_due, closing_in_due, text_end_due}
 use Rattle.resp_scan.proofs.DueEvents.QuietLines.{line_of_quiet, returned_quiet}
 use Rattle.resp_scan.proofs.DueEvents.QuietTokens.{bool_quiet, digits_quiet, dollar_quiet, head_quiet, head_returned_quiet, int_begun_quiet, int_digits_quiet, int_returned_quiet, null_begun_quiet, null_line_quiet, null_returned_quiet, star_quiet, stream_quiet, stream_returned_quiet, streamed_string_quiet, streamed_string_returned_quiet, truth_quiet}
@@ -54,6 +54,7 @@ OwesNothing token = (token ≡ AtTextEnd → ⊥) × ((digit room : ℕ) → tok
 token_due : (token : Token) (r : Rules) (level : ℕ) (bytes : List ℕ) (shown : List Event) → OwesNothing token → b.TokenHas r token level bytes shown →
     AreDueWithin bytes shown
 token_due (InLine room) r level bytes shown p w = line_begun_due r room level bytes shown w
+token_due (InDouble stage room) r level bytes shown p w = double_begun_due r stage room level bytes shown w
 token_due AtLineLf r level bytes shown p w = text_returned_due r level bytes shown w
 token_due AtIntSign r level bytes shown p w = int_begun_quiet r Unsigned level bytes shown w.0 w.1
 token_due (AtIntFirst negative) r level bytes shown p w = int_begun_quiet r w.sign level bytes shown w.token w.told

@@ -13,10 +13,12 @@ use Rattle.resp_fronts.specs.Events as e
 use Rattle.resp_fronts.specs.Events.{Event, TextKind, big_events, events_due, events, without_places, last_of, leaf_events, text_events}
 use Rattle.resp_fronts.proofs.FirstLines.BegunLines.{line_begins, text_first, tree_of_line}
 use Rattle.resp_fronts.proofs.Tokens.LineTokens.{no_break_in_line, returned_whole, text_token_line}
+use Rattle.resp_value.specs.declared.double_stage.DoubleStage.{DoubleStage}
+use Rattle.resp_fronts.proofs.Tokens.DoubleTokens.{double_no_break}
 use Rattle.resp_fronts.specs.Tokens.{IsReturned}
 use Rattle.resp_fronts.proofs.FirstLines.TextLines.{sort_of_text}
 use Rattle.resp_scan.specs.Kinds.{content_events}
-use Rattle.resp_scan.specs.Machine.Beginnings.{LineBegun, TextReturned}
+use Rattle.resp_scan.specs.Machine.Beginnings.{DoubleBegun, LineBegun, TextReturned}
 use Rattle.resp_scan.proofs.DueEvents.FewEvents.{content_in_chunks}
 use Rattle.resp_scan.proofs.DueEvents.InsideDue.{AreDueWithin}
 use Rattle.resp_scan.proofs.TokenMoves.LeafEvents.{given-big, given-line, leaf_told}
@@ -29,21 +31,31 @@ line_due from k a b =
     due_text n (e.line_text_kind k) from (from + 1) a b (last_of from (leaf_text (line k (a ++ b)))) (omega arith) (omega arith)
     (bytes_later n (from + 1 + length a) b (omega arith)) (omega (arith, length-append a b, length-append (a ++ b) (crlf [])))
 
--- a simple string, an error or a double so far
-pub line_begun_due : (r : Rules) (room level : ℕ) (bytes : List ℕ) (shown : List Event) → LineBegun r room level bytes shown → AreDueWithin bytes shown
-line_begun_due r room level bytes shown w from value beyond is_tree whole =
-    let k = w.kind in
-    let content = w.token.content in
-    let is_line : IsLine (line_byte k ∷ content) = subst IsLine w.token.are
-    (no_break_in_line r (line k content) level bytes (text_token_line r k w.size level bytes w.token)) in
+-- the text of a line so far
+text_begun_due : (k : LineKind) (content bytes : List ℕ) (shown : List Event) → IsLine (line_byte k ∷ content) → bytes ≡ line_byte k ∷ content →
+    shown ≡ e.Text (e.line_text_kind k) ∷ content_events content → AreDueWithin bytes shown
+text_begun_due k content bytes shown is_line are told from value beyond is_tree whole =
     let (l, h, after_is) = line_begins (first_line value) (line_byte k ∷ content) (after_line value) beyond is_line (sym (text_first value) ∙ whole ∙
-    ap (λ z. z ++ beyond) w.token.are) in
+    ap (λ z. z ++ beyond) are) in
     let same : value ≡ leaf (line k (content ++ l)) = tree_of_line value k (content ++ l) (sort_of-line value is_tree h ∙
     sort_of_text k (content ++ l)) in
-    ap (λ z. events_due (from + length z) (events from value)) w.token.are
+    ap (λ z. events_due (from + length z) (events from value)) are
     ∙ ap (λ z. events_due (from + suc (length content)) (events from z)) same
     ∙ line_due from k content l
-    ∙ sym w.told
+    ∙ sym told
+
+-- a double so far
+pub double_begun_due : (r : Rules) (stage : DoubleStage) (room level : ℕ) (bytes : List ℕ) (shown : List Event) → DoubleBegun r stage room level bytes shown →
+    AreDueWithin bytes shown
+double_begun_due r stage room level bytes shown w =
+    text_begun_due t.Double w.token.content bytes shown (double_no_break stage w.token.content w.token.at_stage) w.token.are w.told
+
+-- a simple string or an error so far
+pub line_begun_due : (r : Rules) (room level : ℕ) (bytes : List ℕ) (shown : List Event) → LineBegun r room level bytes shown → AreDueWithin bytes shown
+line_begun_due r room level bytes shown w =
+    text_begun_due w.kind w.token.content bytes shown
+    (subst IsLine w.token.are (no_break_in_line r (line w.kind w.token.content) level bytes (text_token_line r w.kind w.size level bytes w.token)))
+    w.token.are w.told
 
 -- after its CR a leaf is all that the value can be
 pub returned_is : (r : Rules) (l : Leaf) (level : ℕ) (bytes : List ℕ) (value : Tree) (beyond : List ℕ) → IsReturned r l level bytes → IsTree value →

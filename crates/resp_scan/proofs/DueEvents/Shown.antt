@@ -10,7 +10,7 @@ use Rattle.resp_fronts.specs.Events.{Event, without_places, leaf_events}
 use Rattle.resp_fronts.proofs.Tokens.LineTokens.{returned_whole}
 use Rattle.resp_scan.specs.declared.machine.Head.{Head}
 use Rattle.resp_scan.specs.declared.machine.Head.TheVariants as head
-use Rattle.resp_scan.specs.Machine.Tokens.{Token, AtStart, AtEnd, InLine, AtLineLf, AtIntSign, AtBigSign, InBigZeros, AtBigDigit, InBig, AtTextEnd, AtNullOne, AtBool, AtBoolCr, AtBoolLf, AtBulkHead, AtArrayHead, AtHead, InHead, AtHeadLf, InContent, AtContentCr, AtContentLf, AtStreamCr, AtStreamLf, AtChunk, InChunk, AtChunkCr, AtChunkLf, AtCloseCr, AtCloseLf, Dead}
+use Rattle.resp_scan.specs.Machine.Tokens.{Token, AtStart, AtEnd, InLine, InDouble, AtLineLf, AtIntSign, AtBigSign, InBigZeros, AtBigDigit, InBig, AtTextEnd, AtNullOne, AtBool, AtBoolCr, AtBoolLf, AtBulkHead, AtArrayHead, AtHead, InHead, AtHeadLf, InContent, AtContentCr, AtContentLf, AtStreamCr, AtStreamLf, AtChunk, InChunk, AtChunkCr, AtChunkLf, AtCloseCr, AtCloseLf, Dead}
 use Rattle.resp_scan.specs.Kinds.{content_events}
 use Rattle.resp_scan.specs.Machine.Beginnings.{TokenHas, BigBegun, ChunkBegun, ChunksBegun, ContentBegun, HeadBegun, HeadCounts, HeadReturned}
 use Rattle.resp_scan.specs.Counts.{open_count, close_count}
@@ -127,6 +127,7 @@ pub is_shown : (token : Token) (r : Rules) (level : ℕ) (bytes : List ℕ) (sho
 is_shown AtStart r level bytes shown w = absurd w
 is_shown AtEnd r level bytes shown w = absurd w
 is_shown (InLine room) r level bytes shown w = text_shown bytes _ w.token.content shown w.told (omega (arith, ap length w.token.are))
+is_shown (InDouble stage room) r level bytes shown w = text_shown bytes _ w.token.content shown w.told (omega (arith, ap length w.token.are))
 is_shown AtLineLf r level bytes shown w = leaf_shown bytes w.leaf shown w.told
     (omega (arith, ap length (returned_whole r w.leaf level bytes w.returned), length-append bytes (10 ∷ [])))
 is_shown AtIntSign r level bytes shown w = none_shown bytes shown w.1

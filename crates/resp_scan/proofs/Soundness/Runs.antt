@@ -1,15 +1,19 @@
 -- Runs of content bytes.
-use Rattle.std.specs.Prelude.{◌≡◌, ◌≢◌, ℕ, zero, suc, ◌+◌, ◌-◌, ◌<◌, ◌≤◌, Bool, true, false, cond, eqb, nat_le, List, [], ◌∷◌, length, take, min, refl}
+use Rattle.std.specs.Prelude.{◌≡◌, ◌≢◌, ℕ, zero, suc, ◌+◌, ◌-◌, ◌<◌, ◌≤◌, Bool, true, false, cond, eqb, nat_le, Option, None, Some, List, [], ◌∷◌, length, take, min, refl}
 use Rattle.std.proofs.Common.{sym, ◌∙◌, ap, arith, get_or, add-zero, add-one, zero-add}
 use Rattle.std.proofs.lemmas.Grind.{common_steps}
 use Rattle.std.proofs.lemmas.Bool.Decides.{nat_tests}
 use Rattle.resp_value.specs.declared.cause.Cause.TheVariants as cause
-use Rattle.resp_scan.specs.Machine.Tokens.{Place, Token, Move, Go, Byte, Give, Refuse, at, InLine, AtLineLf, InBig, InContent, AtContentCr, AtContentLf, InChunk, AtChunkCr, AtChunkLf}
+use Rattle.resp_value.specs.DoubleStages.{and_then, stage_after, stage_after_all, stage_needs}
+use Rattle.resp_value.specs.declared.double_stage.DoubleStage.{DoubleStage}
+use Rattle.resp_scan.specs.declared.doubles.DoubleRun.{DoubleRun}
+use Rattle.resp_scan.specs.Machine.Tokens.{Place, Token, Move, Go, Byte, Give, Refuse, at, Dead, InLine, InDouble, AtLineLf, InBig, InContent, AtContentCr, AtContentLf, InChunk, AtChunkCr, AtChunkLf}
 use Rattle.resp_scan.specs.Machine.Room.{total_room}
 use Rattle.resp_scan.specs.Machine.Heads.{content_at, chunk_at}
-use Rattle.resp_scan.specs.Machine.Moves.{next, content_byte, is_digit, only_byte}
-use Rattle.resp_scan.specs.Machine.Scan.{content, and_more, answer, scan, Part}
-use Rattle.resp_scan.specs.Machine.Runs.{run_to, plain_run, digit_run}
+use Rattle.resp_scan.specs.Machine.Moves.{next, content_byte, double_next, is_digit, only_byte}
+use Rattle.resp_value.proofs.Choices.{if_within}
+use Rattle.resp_scan.specs.Machine.Scan.{Bad, content, and_more, answer, scan, Part}
+use Rattle.resp_scan.specs.Machine.Runs.{run_to, plain_run, digit_run, run_on, double_run}
 
 -- a run of plain bytes is no longer than the piece
 pub plain_run_le : (p : List ℕ) → plain_run p ≤ length p
@@ -159,6 +163,125 @@ big_part s room k p e h =
     let q : k ≡ digit_run (take m p) = e ∙ ap digit_run (take_min m p) in
     scan_part 0 k (at s (InBig room)) (at s (InBig (room - k))) p h (content_big s 0 room m p refl ∙
     ap (λ j. (j, at s (InBig (room - digit_run (take m p))))) (zero-add (digit_run (take m p))) ∙ ap (λ j. (j, at s (InBig (room - j)))) (sym q))
+
+-- Doubles.
+
+-- where a run of a double goes on, length leaves a byte for the next
+pub at_run : (P : DoubleRun → Type 0) (i total room : ℕ) (o : Option DoubleStage) (stop : DoubleRun) (more : DoubleStage → DoubleRun) → P stop →
+    ((next : DoubleStage) → o ≡ Some next → P (more next)) → P (run_on i total room o stop more)
+at_run P i total room None stop more stops goes = stops
+at_run P i total room (Some next) stop more stops goes = case (nat_le room (stage_needs next)) (nat_le (i + 1 + (stage_needs next + 2)) total)
+  where
+    case : (x y : Bool) → P (cond x stop (cond y (more next) stop))
+    case true y = stops
+    case false true = goes next refl
+    case false false = stops
+
+-- a run ends no sooner than it begins
+pub double_run_from : (i total room : ℕ) (stage : DoubleStage) (p : List ℕ) → i ≤ (double_run i total room stage p).count
+double_run_from i total room stage [] = omega arith
+double_run_from i total room stage (b ∷ bs) = case (λ next. double_run_from (i + 1) total (room - 1) next bs)
+  where
+    case : ((next : DoubleStage) → i + 1 ≤ (double_run (i + 1) total (room - 1) next bs).count) → i ≤ (double_run i total room stage (b ∷ bs)).count
+    case h = at_run (λ r. i ≤ r.count) i total room (stage_after stage b) (record { count = i; stage = stage; room = room })
+        (λ next. double_run (i + 1) total (room - 1) next bs) (omega arith) (λ next e. omega (arith, h next))
+
+-- the bytes of a run lead to its stage
+pub double_run_stage : (i total room : ℕ) (stage : DoubleStage) (p : List ℕ) →
+    stage_after_all stage (take ((double_run i total room stage p).count - i) p) ≡ Some (double_run i total room stage p).stage
+double_run_stage i total room stage [] = ap (λ n. stage_after_all stage (take n [])) (sub_self i)
+  where
+    sub_self : (n : ℕ) → n - n ≡ 0
+    sub_self n = omega arith
+double_run_stage i total room stage (b ∷ bs) = case (λ next. double_run_stage (i + 1) total (room - 1) next bs)
+  where
+    none : i - i ≡ 0
+    none = omega arith
+
+    case : ((next : DoubleStage) → stage_after_all next (take ((double_run (i + 1) total (room - 1) next bs).count - (i + 1)) bs) ≡
+        Some (double_run (i + 1) total (room - 1) next bs).stage) → stage_after_all stage (take ((double_run i total room stage (b ∷ bs)).count - i) (b ∷ bs)) ≡
+        Some (double_run i total room stage (b ∷ bs)).stage
+    case h = at_run (λ r. stage_after_all stage (take (r.count - i) (b ∷ bs)) ≡ Some r.stage) i total room (stage_after stage b)
+        (record { count = i; stage = stage; room = room }) (λ next. double_run (i + 1) total (room - 1) next bs)
+        (ap (λ n. stage_after_all stage (take n (b ∷ bs))) none) (λ next e.
+        let from = double_run_from (i + 1) total (room - 1) next bs in
+        let one : (double_run (i + 1) total (room - 1) next bs).count - i ≡ suc ((double_run (i + 1) total (room - 1) next bs).count - (i + 1)) =
+        omega (arith, from) in
+        ap (λ n. stage_after_all stage (take n (b ∷ bs))) one ∙
+        ap (λ o. and_then o (λ to. stage_after_all to (take ((double_run (i + 1) total (room - 1) next bs).count - (i + 1)) bs))) e ∙ h next)
+
+-- the place after a run
+abbrev after_run : Place → DoubleRun → ℕ × Place
+after_run s r = (r.count, at s (InDouble r.stage r.room))
+
+-- a byte of a double is content where the run goes on
+double_byte_runs : (s : Place) (i room b : ℕ) (stage : DoubleStage) (bs : List ℕ) (o : Option DoubleStage) → ((next : DoubleStage) →
+    content (i + 1) (at s (InDouble next (room - 1))) bs ≡ after_run s (double_run (i + 1) (total_room s) (room - 1) next bs)) →
+    and_more (double_next (at s (InDouble stage room)) (i + 1) room stage b o) (i, at s (InDouble stage room)) (λ t. content (i + 1) t bs) ≡
+    after_run s (run_on i (total_room s) room o (record { count = i; stage = stage; room = room })
+    (λ next. double_run (i + 1) (total_room s) (room - 1) next bs))
+double_byte_runs s i room b stage bs None h = case (eqb (stage_needs stage) 0)
+  where
+    case : (x : Bool) → and_more (cond x (only_byte 13 b (Go (at s AtLineLf))) (Refuse cause.Syntax)) (i, at s (InDouble stage room))
+        (λ t. content (i + 1) t bs) ≡ (i, at s (InDouble stage room))
+    case true = wants_stops 13 b (at s AtLineLf) (i, at s (InDouble stage room)) (λ t. content (i + 1) t bs)
+    case false = refl
+double_byte_runs s i room b stage bs (Some next) h = case (nat_le room (stage_needs next)) (nat_le (i + 1 + (stage_needs next + 2)) (total_room s))
+  where
+    case : (x y : Bool) → and_more (cond x (Refuse cause.Length) (cond y (Byte (at s (InDouble next (room - 1)))) (Refuse cause.Total)))
+        (i, at s (InDouble stage room)) (λ t. content (i + 1) t bs) ≡
+        after_run s (cond x (record { count = i; stage = stage; room = room })
+        (cond y (double_run (i + 1) (total_room s) (room - 1) next bs) (record { count = i; stage = stage; room = room })))
+    case true y = refl
+    case false true = h next
+    case false false = refl
+
+-- content of a double, as far as room and the piece allow
+pub content_double : (s : Place) (i room : ℕ) (stage : DoubleStage) (p : List ℕ) → content i (at s (InDouble stage room)) p ≡
+    after_run s (double_run i (total_room s) room stage p)
+content_double s i room stage [] = refl
+content_double s i room stage (b ∷ bs) = double_byte_runs s i room b stage bs (stage_after stage b) (λ next. content_double s (i + 1) (room - 1) next bs)
+
+-- a scan within a double gives a part
+pub double_part : (s : Place) (room : ℕ) (stage : DoubleStage) (p : List ℕ) (r : DoubleRun) → r ≡ double_run 0 (total_room s) room stage p → 0 < r.count →
+    scan 0 (at s (InDouble stage room)) p ≡ Part 0 r.count (at s (InDouble r.stage r.room))
+double_part s room stage p r is some = scan_part 0 r.count (at s (InDouble stage room)) (at s (InDouble r.stage r.room)) p some
+    (content_double s 0 room stage p ∙ ap (after_run s) (sym is))
+
+-- the run of a double that has no byte, and its run after a byte
+abbrev no_run : ℕ → DoubleStage → DoubleRun
+no_run room stage = record { count = 0; stage = stage; room = room }
+
+abbrev run_after : Place → ℕ → List ℕ → DoubleStage → DoubleRun
+run_after s room bs to = double_run (0 + 1) (total_room s) (room - 1) to bs
+
+over_total_byte : (s : Place) (room : ℕ) (stage to : DoubleStage) (bs : List ℕ) (y : Bool) →
+    (cond y (run_after s room bs to) (no_run room stage)).count ≤ 0 → Bad 0 cause.Total (at s (Dead cause.Total)) ≡
+    answer (cond y (Byte (at s (InDouble to (room - 1)))) (Refuse cause.Total)) 0 (at s (InDouble stage room)) (λ t. scan (0 + 1) t bs)
+    (λ t. content (0 + 1) t bs)
+over_total_byte s room stage to bs true none = absurd (omega (arith, none, double_run_from (0 + 1) (total_room s) (room - 1) to bs))
+over_total_byte s room stage to bs false none = refl
+
+-- where no run begins with a byte for which length leaves room, total refuses the byte
+stops_at : (s : Place) (room b : ℕ) (stage next : DoubleStage) (bs : List ℕ) (o : Option DoubleStage) → o ≡ Some next → stage_needs next < room →
+    (run_on 0 (total_room s) room o (no_run room stage) (run_after s room bs)).count ≤ 0 → Bad 0 cause.Total (at s (Dead cause.Total)) ≡
+    answer (double_next (at s (InDouble stage room)) (0 + 1) room stage b o) 0 (at s (InDouble stage room)) (λ t. scan (0 + 1) t bs) (λ t. content (0 + 1) t bs)
+stops_at s room b stage next bs None e roomy none = absurd (cc)
+stops_at s room b stage next bs (Some to) e roomy none =
+    let same : to ≡ next = cc in
+    if_within room (stage_needs to) (λ x. (cond x (no_run room stage)
+    (cond (nat_le (0 + 1 + (stage_needs to + 2)) (total_room s)) (run_after s room bs to) (no_run room stage))).count ≤ 0 →
+    Bad 0 cause.Total (at s (Dead cause.Total)) ≡ answer (cond x (Refuse cause.Length) (cond (nat_le (0 + 1 + (stage_needs to + 2)) (total_room s))
+    (Byte (at s (InDouble to (room - 1)))) (Refuse cause.Total))) 0 (at s (InDouble stage room)) (λ t. scan (0 + 1) t bs) (λ t. content (0 + 1) t bs))
+    (λ within. absurd (omega (arith, within, roomy, ap stage_needs same)))
+    (λ over. over_total_byte s room stage to bs (nat_le (0 + 1 + (stage_needs to + 2)) (total_room s))) none
+
+-- a byte of a double for which length leaves room is over total where no run begins with it
+pub double_stops : (s : Place) (room : ℕ) (stage next : DoubleStage) (p : List ℕ) → 0 < length p → stage_after stage (get_or p 0 0) ≡ Some next →
+    stage_needs next < room → (double_run 0 (total_room s) room stage p).count ≤ 0 →
+    Bad 0 cause.Total (at s (Dead cause.Total)) ≡ scan 0 (at s (InDouble stage room)) p
+double_stops s room stage next [] some leads roomy none = absurd (omega (arith, some))
+double_stops s room stage next (b ∷ bs) some leads roomy none = stops_at s room b stage next bs (stage_after stage b) leads roomy none
 
 -- Counted content.
 

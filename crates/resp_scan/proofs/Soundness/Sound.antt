@@ -1,14 +1,16 @@
 -- Every byte keeps the numbers of every place.
-use Rattle.std.proofs.Common.{◌≡◌, ℕ, ◌+◌, ◌-◌, ◌*◌, ◌<◌, ◌≤◌, Bool, true, false, eqb, nat_le, [], ◌∷◌, refl, sym, subst, arith}
+use Rattle.std.proofs.Common.{◌≡◌, ℕ, ◌+◌, ◌-◌, ◌*◌, ◌<◌, ◌≤◌, Bool, true, false, eqb, nat_le, Option, None, Some, [], ◌∷◌, refl, sym, subst, arith}
 use Rattle.std.proofs.lemmas.Bool.{false≢true}
 use Rattle.std.proofs.lemmas.Bool.Decides.{nat_tests}
 use Rattle.resp_value.specs.declared.cause.Cause.TheVariants as cause
+use Rattle.resp_value.specs.DoubleStages.{stage_after, stage_needs}
+use Rattle.resp_value.specs.declared.double_stage.DoubleStage.{DoubleStage}
 use Rattle.resp_scan.specs.declared.machine.Head.TheVariants as head
 use Rattle.resp_scan.specs.Machine.Magnitudes.{greatest_magnitude}
-use Rattle.resp_scan.specs.Machine.Tokens.{Token, Place, Move, Go, Refuse, at, AtStart, InLine, AtLineLf, AtIntSign, AtIntFirst, InInt, AtIntLf, AtBigSign, AtBigFirst, InBigZeros, AtBigZeroLf, AtBigDigit, InBig, AtTextEnd, AtNullOne, AtNullCr, AtNullLf, AtBool, AtBoolCr, AtBoolLf, AtBulkHead, AtArrayHead, AtHead, InHead, AtHeadLf, AtFormat, AtFormatSecond, AtFormatThird, AtFormatColon, InContent, AtContentCr, AtContentLf, AtStreamCr, AtStreamLf, AtChunk, InChunk, AtChunkCr, AtChunkLf, AtOpenCr, AtOpenLf, AtCloseCr, AtCloseLf}
+use Rattle.resp_scan.specs.Machine.Tokens.{Token, Place, Move, Go, Refuse, at, AtStart, InLine, InDouble, AtLineLf, AtIntSign, AtIntFirst, InInt, AtIntLf, AtBigSign, AtBigFirst, InBigZeros, AtBigZeroLf, AtBigDigit, InBig, AtTextEnd, AtNullOne, AtNullCr, AtNullLf, AtBool, AtBoolCr, AtBoolLf, AtBulkHead, AtArrayHead, AtHead, InHead, AtHeadLf, AtFormat, AtFormatSecond, AtFormatThird, AtFormatColon, InContent, AtContentCr, AtContentLf, AtStreamCr, AtStreamLf, AtChunk, InChunk, AtChunkCr, AtChunkLf, AtOpenCr, AtOpenLf, AtCloseCr, AtCloseLf}
 use Rattle.resp_scan.specs.Machine.Room.{has_total_room, over_total}
 use Rattle.resp_scan.specs.Machine.Heads.{may_end, content_at}
-use Rattle.resp_scan.specs.Machine.Moves.{move_unless, only_byte, is_digit, int_digit, int_first, big_digit, big_first, content_byte, start_next, next_in}
+use Rattle.resp_scan.specs.Machine.Moves.{move_unless, only_byte, is_digit, int_digit, int_first, big_digit, big_first, content_byte, double_next, start_next, next_in}
 use Rattle.resp_scan.specs.Machine.Sound.{token_needed, IsTokenSound, IsSoundBy}
 use Rattle.resp_scan.proofs.Soundness.SoundMoves.{cond_if, is_outside, IsInside, IsMove, unless_is, fits_room, total_room, stays, less, within_total}
 use Rattle.resp_scan.proofs.Soundness.SoundFrames.{is_ended, is_opened_streamed, sound_closed}
@@ -59,6 +61,16 @@ is_big_first s t i negative b h q =
 wants_is : (i : ℕ) (s : Place) (x b : ℕ) (v : Move) → IsMove i s v → IsMove i s (only_byte x b v)
 wants_is i s x b v m = cond_if (IsMove i s) (eqb b x) v (Refuse cause.Syntax) (λ e. m) (λ e. tt)
 
+-- a byte of a double, given the stage that it leads to
+is_double_next : (s : Place) (i room b : ℕ) (stage : DoubleStage) (o : Option DoubleStage) → IsSoundBy i (at s (InDouble stage room)) →
+    IsMove (i + 1) s (double_next s (i + 1) room stage b o)
+is_double_next s i room b stage None h = cond_if (IsMove (i + 1) s) (eqb (stage_needs stage) 0) _ _
+    (λ e. wants_is (i + 1) s 13 b _ (less s (InDouble stage room) AtLineLf i h (omega arith) tt refl)) (λ e. tt)
+is_double_next s i room b stage (Some next) h =
+    cond_if (IsMove (i + 1) s) (nat_le room (stage_needs next)) _ _ (λ e. tt) (λ e.
+    cond_if (IsMove (i + 1) s) (has_total_room s (i + 1) (stage_needs next + 2)) _ _ (λ f. within_total s (InDouble stage room) (InDouble next (room - 1)) i
+    (stage_needs next + 2) h (fits_room s (i + 1) (stage_needs next + 2) f (omega arith)) (omega arith) tt refl) (λ f. tt))
+
 -- Every token.
 
 -- every byte, at every token, keeps the numbers of a place
@@ -68,6 +80,7 @@ is_move (InLine room) s i b h g =
     cond_if (IsMove (i + 1) s) (eqb b 13) _ _ (λ e. less s (InLine room) AtLineLf i h (omega arith) tt refl) (λ e.
     cond_if (IsMove (i + 1) s) (eqb b 10) _ _ (λ e. tt) (λ e.
     is_byte s i room InLine (λ r f. within_total s (InLine room) (InLine r) i 2 h (fits_room s (i + 1) 2 f (omega arith)) (omega arith) tt refl)))
+is_move (InDouble stage room) s i b h g = is_double_next s i room b stage (stage_after stage b) h
 is_move AtLineLf s i b h g = wants_is (i + 1) s 10 b _ (is_ended s AtLineLf i h (omega arith), tt)
 is_move AtIntSign s i b h g =
     cond_if (IsMove (i + 1) s) (eqb b 45) _ _ (λ e. is_sign s AtIntSign (AtIntFirst true) i h (omega arith) tt refl) (λ e.

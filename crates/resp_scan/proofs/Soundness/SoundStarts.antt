@@ -4,16 +4,17 @@ use Rattle.std.proofs.lemmas.Bool.{false≢true}
 use Rattle.std.specs.List.{AllByRecursion}
 use Rattle.std.specs.Str.{byte}
 use Rattle.resp_value.specs.declared.cause.Cause.TheVariants as cause
+use Rattle.resp_value.specs.declared.double_stage.DoubleStage.TheVariants.{Begun}
 use Rattle.resp_value.specs.declared.version.Version.{Version}
 use Rattle.resp_value.specs.declared.version.Version.TheVariants as version
 use Rattle.resp_fronts.proofs.Refusals.FirstByteCauses.{at_answer, and_rows}
 use Rattle.resp_scan.specs.declared.frame.Frame.{Frame}
 use Rattle.resp_scan.specs.declared.machine.Head.{Head}
 use Rattle.resp_scan.specs.declared.machine.Head.TheVariants as head
-use Rattle.resp_scan.specs.Machine.Tokens.{Token, Place, Happening, Text, Move, Refuse, at, AtStart, InLine, AtIntSign, AtBigSign, AtNullCr, AtBool, AtBulkHead, AtArrayHead, AtHead}
+use Rattle.resp_scan.specs.Machine.Tokens.{Token, Place, Happening, Text, Move, Refuse, at, AtStart, InLine, InDouble, AtIntSign, AtBigSign, AtNullCr, AtBool, AtBulkHead, AtArrayHead, AtHead}
 use Rattle.resp_scan.specs.Machine.Room.{is_full, after_begin, begin_cause}
 use Rattle.resp_scan.specs.Machine.Heads.{first_needed}
-use Rattle.resp_scan.specs.Machine.Moves.{begin_move, line_move, double_move, aggregate_move, push_move, move_in_three, may_close, close_move, start_next}
+use Rattle.resp_scan.specs.Machine.Moves.{begin_move, line_move, double_line_move, double_move, aggregate_move, push_move, move_in_three, may_close, close_move, start_next}
 use Rattle.resp_scan.specs.Machine.Sound.{token_needed, IsTokenSound, IsSoundBy}
 use Rattle.resp_scan.proofs.Soundness.SoundMoves.{cond_if, is_outside, IsPlain, IsMove, unless_is, not_full}
 use Rattle.resp_scan.proofs.Soundness.SoundFrames.{begun_length, begun_taken, begun_rules, sound_begun, sound_closing}
@@ -40,6 +41,17 @@ is_line s e y h = unless_is 1 s (begin_cause s 2) _ (λ c. (
   y,
 ))
 
+is_double_line : (s : Place) → IsSoundBy 0 (at s AtStart) → IsMove 1 s (double_line_move s)
+is_double_line s h = unless_is 1 s (begin_cause s 3) _ (λ c. (
+  record {
+    taken = begun_taken s s.frames;
+    rules = begun_rules s s.frames;
+    sound =
+        sound_begun s s.frames 3 (InDouble Begun s.bounds.length) refl h c (omega arith) (omega arith) tt;
+  },
+  tt,
+))
+
 is_aggregate : (s : Place) (x : Head) → IsSoundBy 0 (at s AtStart) → 0 < first_needed x → IsMove 1 s (aggregate_move s x)
 is_aggregate s x h l = cond_if (IsMove 1 s) (is_full s) _ _ (λ e. tt)
     (λ e. is_begun s (first_needed x) (AtHead x) h l (omega arith) (λ o. omega (arith, begun_length s s.frames refl, not_full s e)) refl)
@@ -62,7 +74,7 @@ is_closing s h = cond_if (IsMove 1 s) (may_close s.frames) _ _ (λ e. record {
 }) (λ e. tt)
 
 is_double : (s : Place) → IsSoundBy 0 (at s AtStart) → IsMove 1 s (double_move s)
-is_double s h = cond_if (IsMove 1 s) s.bounds.doubles _ _ (λ e. is_three 1 s s.version _ (is_line s (Text text.Double) tt h)) (λ e. tt)
+is_double s h = cond_if (IsMove 1 s) s.bounds.doubles _ _ (λ e. is_three 1 s s.version _ (is_double_line s h)) (λ e. tt)
 
 -- each byte at which a value or a close begins, with its move
 abbrev pub start_rows : Place → List (ℕ × Move)

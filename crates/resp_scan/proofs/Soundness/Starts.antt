@@ -3,10 +3,12 @@ use Rattle.std.proofs.Common.{◌≡◌, ◌≢◌, ℕ, false, eqb, ◌<◌, Li
 use Rattle.std.proofs.lemmas.Bool.Decides.{nat_tests}
 use Rattle.resp_value.specs.declared.cause.Cause.{Cause}
 use Rattle.resp_value.specs.declared.version.Version.TheVariants as version
+use Rattle.resp_value.specs.declared.double_stage.DoubleStage.TheVariants.{Begun}
+use Rattle.resp_scan.specs.declared.event.TextKind.TheVariants as text
 use Rattle.resp_scan.specs.declared.start.First.{First}
-use Rattle.resp_scan.specs.Machine.Tokens.{Token, Place, Happening, Go, Give, at, AtStart, InLine, Dead}
+use Rattle.resp_scan.specs.Machine.Tokens.{Token, Place, Happening, Text, Go, Give, at, AtStart, InLine, InDouble, Dead}
 use Rattle.resp_scan.specs.Machine.Room.{after_begin, begin_cause}
-use Rattle.resp_scan.specs.Machine.Moves.{move_unless, begin_move, line_move, start_next, start_three, move_in_three}
+use Rattle.resp_scan.specs.Machine.Moves.{move_unless, begin_move, line_move, double_line_move, start_next, start_three, move_in_three}
 use Rattle.resp_scan.specs.Machine.Scan.{Gave, Bad, scan}
 use Rattle.resp_scan.specs.Machine.First.{after_first, first_move, by_first}
 
@@ -31,6 +33,17 @@ begun_line s u e p h f =
 -- a line that may not begin answers with its cause
 pub refused_line : (s : Place) (e : Happening) (c : Cause) (p : List ℕ) → Some c ≡ begin_cause s 2 → after_first (line_move s e) s p ≡ Bad 0 c (at s (Dead c))
 refused_line s e c p h = ap (λ v. after_first (move_unless v (Give e (at (after_begin s) (InLine s.bounds.length)))) s p) (sym h)
+
+-- a double that begins answers with its event
+pub begun_double : (s u : Place) (p : List ℕ) → None ≡ begin_cause s 3 → at u AtStart ≡ after_begin s →
+    after_first (double_line_move s) s p ≡ Gave 1 (Text text.Double) (at u (InDouble Begun s.bounds.length))
+begun_double s u p h f =
+    ap (λ v. after_first (move_unless v (Give (Text text.Double) (at (after_begin s) (InDouble Begun s.bounds.length)))) s p) (sym h) ∙
+    ap (λ v. Gave 1 (Text text.Double) (at v (InDouble Begun s.bounds.length))) (sym f)
+
+-- a double that may not begin answers with its cause
+pub refused_double : (s : Place) (c : Cause) (p : List ℕ) → Some c ≡ begin_cause s 3 → after_first (double_line_move s) s p ≡ Bad 0 c (at s (Dead c))
+refused_double s c p h = ap (λ v. after_first (move_unless v (Give (Text text.Double) (at (after_begin s) (InDouble Begun s.bounds.length)))) s p) (sym h)
 
 -- a scan of the first byte of a value
 pub first_scan : (s : Place) (p : List ℕ) → 0 < length p → after_first (start_next (at s AtStart) (get_or p 0 0)) (at s AtStart) (drop 1 p) ≡
@@ -61,6 +74,9 @@ pub ruleset answers = (refused_answer, begun_answer)
 
 -- what comes of a line's type byte
 pub ruleset lines = (begun_line, refused_line)
+
+-- what comes of the type byte of a double
+pub ruleset double_lines = (begun_double, refused_double)
 
 -- what a scan comes to at a value's first byte
 pub ruleset first_byte = (first_scan, refused_answer, begun_answer)

@@ -4,7 +4,7 @@ use Rattle.std.proofs.Common.{◌≡◌, ℕ, ◌+◌, ◌<◌, List, refl, sym,
 use Rattle.resp_fronts.specs.Events.{Event}
 use Rattle.resp_scan.specs.declared.machine.Head.{Head}
 use Rattle.resp_scan.specs.declared.machine.Head.TheVariants as head
-use Rattle.resp_scan.specs.Machine.Tokens.{Place, Token, at, AtStart, AtEnd, InLine, AtLineLf, AtIntSign, AtIntFirst, InInt, AtIntLf, AtBigSign, AtBigFirst, InBigZeros, AtBigZeroLf, AtBigDigit, InBig, AtTextEnd, AtNullOne, AtNullCr, AtNullLf, AtBool, AtBoolCr, AtBoolLf, AtBulkHead, AtArrayHead, AtHead, InHead, AtHeadLf, AtFormat, AtFormatSecond, AtFormatThird, AtFormatColon, InContent, AtContentCr, AtContentLf, AtStreamCr, AtStreamLf, AtChunk, InChunk, AtChunkCr, AtChunkLf, AtOpenCr, AtOpenLf, AtCloseCr, AtCloseLf, Dead}
+use Rattle.resp_scan.specs.Machine.Tokens.{Place, Token, at, AtStart, AtEnd, InLine, InDouble, AtLineLf, AtIntSign, AtIntFirst, InInt, AtIntLf, AtBigSign, AtBigFirst, InBigZeros, AtBigZeroLf, AtBigDigit, InBig, AtTextEnd, AtNullOne, AtNullCr, AtNullLf, AtBool, AtBoolCr, AtBoolLf, AtBulkHead, AtArrayHead, AtHead, InHead, AtHeadLf, AtFormat, AtFormatSecond, AtFormatThird, AtFormatColon, InContent, AtContentCr, AtContentLf, AtStreamCr, AtStreamLf, AtChunk, InChunk, AtChunkCr, AtChunkLf, AtOpenCr, AtOpenLf, AtCloseCr, AtCloseLf, Dead}
 use Rattle.resp_scan.specs.Machine.Moves.{next}
 use Rattle.resp_scan.specs.Machine.Standing.{HasCountsOf, Leads, StandsAfter}
 use Rattle.resp_scan.proofs.TokenMoves.BigNumbersLead.{big_first_leads, big_leads, big_sign_leads, big_zero_end_leads, big_zeros_lead}
@@ -16,6 +16,7 @@ use Rattle.resp_scan.proofs.TokenMoves.ContentLead.{content_ends_lead, content_l
 use Rattle.resp_scan.proofs.HeadMoves.CountsLead.{counts_lead}
 use Rattle.resp_scan.proofs.TokenMoves.FormatsLead.{colons_lead, formats_lead, second_format_bytes_lead, third_format_bytes_lead}
 use Rattle.resp_scan.proofs.HeadMoves.HeadsLead.{array_head_leads, heads_lead, open_cr_leads, open_end_leads}
+use Rattle.resp_scan.proofs.TokenMoves.DoublesLead.{doubles_lead}
 use Rattle.resp_scan.proofs.TokenMoves.LinesLead.{line_ends_lead, lines_lead}
 use Rattle.resp_scan.proofs.TokenMoves.LiteralsLead.{bool_cr_leads, bool_end_leads, bool_leads, null_cr_leads, null_end_leads, null_one_leads}
 use Rattle.resp_scan.proofs.TokenMoves.NumbersLead.{int_end_leads, int_first_leads, int_leads, int_sign_leads}
@@ -79,6 +80,7 @@ each_leads AtTextEnd s used byte front es is_byte c at_front w = absurd (let e :
 each_leads (AtBigDigit digit room) s used byte front es is_byte c at_front w = absurd (let e : AtBigDigit digit room ≡ AtStart = (at_front refl).0 in cc)
 each_leads (Dead cause) s used byte front es is_byte c at_front w = absurd (let e : Dead cause ≡ AtStart = (at_front refl).0 in cc)
 each_leads (InLine room) s used byte front es is_byte c at_front w = lines_lead s room used byte front es is_byte c w
+each_leads (InDouble stage room) s used byte front es is_byte c at_front w = doubles_lead s stage room used byte front es is_byte c w
 each_leads AtLineLf s used byte front es is_byte c at_front w = line_ends_lead s used byte front es is_byte c w
 each_leads AtIntSign s used byte front es is_byte c at_front w = int_sign_leads s used byte front es is_byte c w
 each_leads (AtIntFirst negative) s used byte front es is_byte c at_front w = int_first_leads s negative used byte front es is_byte c w

@@ -36,7 +36,7 @@ use Rattle.resp_fronts.proofs.Tokens.LineTokens.{line_begun, text_token_begins}
 use Rattle.resp_fronts.proofs.Tokens.NumberTokens.{null_token_line, number_begun, truth_begun}
 use Rattle.resp_fronts.proofs.Between.RefusedBetweenValues.{GoesOn, refuse_stop}
 use Rattle.resp_fronts.specs.OpenLevels.{AreLevelsOf, AreReady, HasShape, Level, so_far}
-use Rattle.resp_fronts.specs.Tokens.{HasLine}
+use Rattle.resp_fronts.specs.Tokens.{HasAnyText, HasLine}
 use Rattle.resp_fronts.proofs.Refusals.FirstByteCauses.{at_answer, and_rows}
 use Rattle.resp_scan.specs.declared.event.TextKind.TheVariants as text
 use Rattle.resp_scan.specs.declared.frame.Frame.{Frame}
@@ -45,17 +45,19 @@ use Rattle.resp_scan.specs.declared.frame.Shape.TheVariants.{Left, Begun}
 use Rattle.resp_scan.specs.declared.machine.Head.{Head}
 use Rattle.resp_scan.specs.declared.machine.Head.TheVariants as head
 use Rattle.resp_scan.specs.Machine.Tokens as k
-use Rattle.resp_scan.specs.Machine.Tokens.{Give, Go, Move, Place, Refuse, Token, AtArrayHead, AtBigSign, AtBool, AtBulkHead, AtCloseCr, AtHead, AtIntSign, AtNullCr, AtStart, InLine, at}
+use Rattle.resp_scan.specs.Machine.Tokens.{Give, Go, Move, Place, Refuse, Token, AtArrayHead, AtBigSign, AtBool, AtBulkHead, AtCloseCr, AtHead, AtIntSign, AtNullCr, AtStart, InDouble, InLine, at}
 use Rattle.resp_scan.specs.Machine.Heads.{first_needed}
 use Rattle.resp_scan.specs.Machine.Room.{after_begin, is_full}
 use Rattle.resp_scan.specs.Machine.Moves as machine
-use Rattle.resp_scan.specs.Machine.Moves.{aggregate_move, begin_move, close_move, line_move, may_close, may_close_of, push_move, start_next, start_three, move_unless, next}
+use Rattle.resp_scan.specs.Machine.Moves.{aggregate_move, begin_move, close_move, double_line_move, line_move, may_close, may_close_of, push_move, start_next, start_three, move_unless, next}
 use Rattle.resp_scan.specs.Kinds.{IsRefusedFor, event_of, rules_of}
 use Rattle.resp_scan.specs.Machine.Beginnings as b
-use Rattle.resp_scan.specs.Machine.Beginnings.{AggregateBegun, LineBegun, NullLine}
+use Rattle.resp_scan.specs.Machine.Beginnings.{AggregateBegun, DoubleBegun, LineBegun, NullLine}
 use Rattle.resp_scan.specs.Machine.Standing.{AwaitsMember, IsBeingClosed, HasCountsOf, IsInside, Leads, StandsAfter, StandsAfterAt, busy_levels, waiting_shape, waiting_levels}
 use Rattle.resp_scan.proofs.TokenMoves.Begins.{begins_leads, is_between, length-waiting}
 use Rattle.resp_scan.proofs.HeadMoves.HeadsLead.{aggregate_row, no_two_in_three, attribute_row}
+use Rattle.resp_value.specs.declared.double_stage.DoubleStage.TheVariants as stage
+use Rattle.resp_scan.proofs.TokenMoves.DoublesLead.{double_begun_by, double_row}
 use Rattle.resp_scan.proofs.TokenMoves.LinesLead.{line_row}
 use Rattle.resp_scan.proofs.Soundness.SoundStarts.{start_rows}
 use Rattle.resp_scan.proofs.Soundness.SoundFrames.{begun_rules}
@@ -78,10 +80,10 @@ answer_named s front es byte rule c counts no_stop w answer names =
 
 -- Lines.
 
-line_begun_by : (r : Rules) (kind : LineKind) (level : ℕ) → HasLine r kind →
+line_begun_by : (r : Rules) (kind : LineKind) (level : ℕ) → HasLine r kind → HasAnyText kind →
     LineBegun r r.limits.length level (t.line_byte kind ∷ []) (e.Text (e.line_text_kind kind) ∷ [])
 unfolding text_token_begins
-line_begun_by r kind level p = record { kind = kind; size = 0; token = text_token_begins r kind level p; leaves = omega arith; told = refl }
+line_begun_by r kind level p any = record { kind = kind; size = 0; token = text_token_begins r kind level p any; leaves = omega arith; told = refl }
 
 -- The first byte of a value.
 
@@ -91,18 +93,31 @@ lies_begun : (s : Place) (token : Token) (fs : List Frame) (front : List ℕ) (e
 lies_begun s token fs front es h = subst (λ r. StandsAfterAt r token fs front es) (sym (begun_rules s s.frames)) h
 
 -- the byte of a simple line gives the begin of its text
-line_leads : (s : Place) (kind : LineKind) (happening : k.Happening) (front : List ℕ) (es : List Event) → HasLine (rules_of s) kind →
+line_leads : (s : Place) (kind : LineKind) (happening : k.Happening) (front : List ℕ) (es : List Event) → HasLine (rules_of s) kind → HasAnyText kind →
     event_of happening ≡ e.Text (e.line_text_kind kind) → (t.line_byte kind ≡ 46 → ⊥) →
     first_byte_refusal (rules_of s) (length s.frames) (t.line_byte kind) ≡ None → HasCountsOf (at s AtStart) 0 front → StandsAfter (at s AtStart) front es →
     Leads (at s AtStart) front es (t.line_byte kind) (line_move (at s AtStart) happening)
-line_leads s kind happening front es p told no_stop none c w =
+line_leads s kind happening front es p any told no_stop none c w =
     let q = at s AtStart in
     let r = rules_of s in
     begins_leads q (LineBegun r s.bounds.length) front es (event_of happening ∷ []) (t.line_byte kind) 2
     (Give happening (at (after_begin q) (InLine s.bounds.length))) c no_stop none w
-    (λ level i. subst (λ x. LineBegun r s.bounds.length level (t.line_byte kind ∷ []) (x ∷ [])) (sym told) (line_begun_by r kind level p))
+    (λ level i. subst (λ x. LineBegun r s.bounds.length level (t.line_byte kind ∷ []) (x ∷ [])) (sym told) (line_begun_by r kind level p any))
     (λ level bytes shown i t. line_row r s.bounds.length level bytes shown t)
     (λ inside. lies_begun q (InLine s.bounds.length) (after_begin q).frames (front ++ t.line_byte kind ∷ []) (es ++ event_of happening ∷ []) inside)
+
+-- the byte of a double gives the begin of its text
+double_line_leads : (s : Place) (front : List ℕ) (es : List Event) → HasLine (rules_of s) t.Double →
+    first_byte_refusal (rules_of s) (length s.frames) 44 ≡ None → HasCountsOf (at s AtStart) 0 front → StandsAfter (at s AtStart) front es →
+    Leads (at s AtStart) front es 44 (double_line_move (at s AtStart))
+double_line_leads s front es p none c w =
+    let q = at s AtStart in
+    let r = rules_of s in
+    begins_leads q (DoubleBegun r stage.Begun s.bounds.length) front es (e.Text e.Double ∷ []) 44 3
+    (Give (k.Text text.Double) (at (after_begin q) (InDouble stage.Begun s.bounds.length))) c (λ z. omega arith) none w
+    (λ level i. double_begun_by r level p (omega (arith, c.sound.bounds.length_in_range.0)))
+    (λ level bytes shown i t. double_row r stage.Begun s.bounds.length level bytes shown t)
+    (λ inside. lies_begun q (InDouble stage.Begun s.bounds.length) (after_begin q).frames (front ++ 44 ∷ []) (es ++ e.Text e.Double ∷ []) inside)
 
 -- what a token has of a byte by itself, the least that completes it, and that the token stands inside a value
 record Begins (s : Place) (token : Token) (byte needed : ℕ) : Type 0 where
@@ -140,12 +155,12 @@ double_leads : (s : Place) (front : List ℕ) (es : List Event) → HasCountsOf 
 double_leads s front es c w = case s.bounds.doubles refl
   where
     case : (x : Bool) → s.bounds.doubles ≡ x → Leads (at s AtStart) front es 44
-        (cond x (machine.move_in_three s.version (line_move (at s AtStart) (k.Text text.Double))) (Refuse cause.Double))
+        (cond x (machine.move_in_three s.version (double_line_move (at s AtStart))) (Refuse cause.Double))
     case false off = answer_named (at s AtStart) front es 44 NoDouble cause.Double c (λ z. omega arith) w
         (ap (λ x. cond x (refusal_in_three s.version None) (Some NoDouble)) off) refl
-    case true allowed = three_leads s 44 front es None (line_move (at s AtStart) (k.Text text.Double)) (λ z. omega arith)
+    case true allowed = three_leads s 44 front es None (double_line_move (at s AtStart)) (λ z. omega arith)
         (ap (λ x. cond x (refusal_in_three s.version None) (Some NoDouble)) allowed) c w
-        (λ no_two none. line_leads s t.Double (k.Text text.Double) front es (no_two, λ off. absurd cc) refl (λ z. omega arith) none c w)
+        (λ no_two none. double_line_leads s front es (no_two, λ off. absurd cc) none c w)
 
 -- the byte of an aggregate, where the depth leaves room
 aggregate_leads : (s : Place) (kind : Kind) (h : Head) (front : List ℕ) (es : List Event) → ((level : ℕ) → level ≡ length s.frames → IsNoPushBelow level kind) →
@@ -328,8 +343,8 @@ verbatim_begins s roomy no_two = record {
 start_rows_lead : (s : Place) (front : List ℕ) (es : List Event) → HasCountsOf (at s AtStart) 0 front → StandsAfter (at s AtStart) front es →
     AllByRecursion (λ row. Leads (at s AtStart) front es row.0 row.1) (start_rows (at s AtStart))
 start_rows_lead s front es c w =
-    and_rows (line_leads s t.Simple (k.Text text.Simple) front es tt refl (λ z. omega arith) refl c w)
-    (and_rows (line_leads s t.Error (k.Text text.Error) front es tt refl (λ z. omega arith) refl c w)
+    and_rows (line_leads s t.Simple (k.Text text.Simple) front es tt tt refl (λ z. omega arith) refl c w)
+    (and_rows (line_leads s t.Error (k.Text text.Error) front es tt tt refl (λ z. omega arith) refl c w)
     (and_rows (token_leads s AtIntSign 58 3 front es (int_begins s) (λ z. omega arith) c w refl)
     (and_rows (token_leads s AtBulkHead 36 4 front es (bulk_begins s) (λ z. omega arith) c w refl)
     (and_rows (token_leads s AtArrayHead 42 (cond (is_full (at s AtStart)) 4 3) front es (array_begins s) (λ z. omega arith) c w refl)

@@ -10,16 +10,17 @@ use Rattle.resp_value.specs.Trees as t
 use Rattle.resp_value.specs.Trees.{Leaf, numeral, null, truth, NullForm, LineKind, StringKind, Chunk, IsChunk, IsLeaf, CanStream, chunks_text, joined_content, kind_byte, leaf_text, payload}
 use Rattle.resp_value.specs.Rules.{Rules, WithinItems}
 use Rattle.resp_value.specs.LocalRules.{LeafKeeps, IsNoPushBelow}
+use Rattle.resp_value.specs.declared.double_stage.DoubleStage.{DoubleStage}
 use Rattle.resp_value.specs.declared.version.Version.TheVariants.{Two}
 use Rattle.resp_fronts.specs.Events.{Event, TextKind, leaf_events, without_places}
 use Rattle.resp_fronts.specs.Events as e
 use Rattle.resp_scan.specs.declared.machine.Head.{Head}
 use Rattle.resp_scan.specs.declared.machine.Head.TheVariants as head
-use Rattle.resp_scan.specs.Machine.Tokens.{Token, AtStart, AtEnd, InLine, AtLineLf, AtIntSign, AtIntFirst, InInt, AtIntLf, AtBigSign, AtBigFirst, InBigZeros, AtBigZeroLf, AtBigDigit, InBig, AtTextEnd, AtNullOne, AtNullCr, AtNullLf, AtBool, AtBoolCr, AtBoolLf, AtBulkHead, AtArrayHead, AtHead, InHead, AtHeadLf, AtFormat, AtFormatSecond, AtFormatThird, AtFormatColon, InContent, AtContentCr, AtContentLf, AtStreamCr, AtStreamLf, AtChunk, InChunk, AtChunkCr, AtChunkLf, AtOpenCr, AtOpenLf, AtCloseCr, AtCloseLf, Dead}
+use Rattle.resp_scan.specs.Machine.Tokens.{Token, AtStart, AtEnd, InLine, InDouble, AtLineLf, AtIntSign, AtIntFirst, InInt, AtIntLf, AtBigSign, AtBigFirst, InBigZeros, AtBigZeroLf, AtBigDigit, InBig, AtTextEnd, AtNullOne, AtNullCr, AtNullLf, AtBool, AtBoolCr, AtBoolLf, AtBulkHead, AtArrayHead, AtHead, InHead, AtHeadLf, AtFormat, AtFormatSecond, AtFormatThird, AtFormatColon, InContent, AtContentCr, AtContentLf, AtStreamCr, AtStreamLf, AtChunk, InChunk, AtChunkCr, AtChunkLf, AtOpenCr, AtOpenLf, AtCloseCr, AtCloseLf, Dead}
 use Rattle.resp_value.specs.Kinds.{kind_of}
 use Rattle.resp_scan.specs.Kinds.{content_events}
 use Rattle.resp_scan.specs.Machine.Moves as machine
-use Rattle.resp_fronts.specs.Tokens.{HasStreamed, IsContentToken, IsCountReturned, IsCountToken, IsLengthToken, IsLineOf, IsNumberBegun, IsNumberToken, IsReturned, IsTextToken, zeros}
+use Rattle.resp_fronts.specs.Tokens.{HasStreamed, IsContentToken, IsCountReturned, IsCountToken, IsDoubleToken, IsLengthToken, IsLineOf, IsNumberBegun, IsNumberToken, IsReturned, IsTextToken, zeros}
 
 -- Lines and numbers.
 
@@ -30,6 +31,14 @@ pub record LineBegun (r : Rules) (room : ℕ) (level : ℕ) (bytes : List ℕ) (
   pub token : IsTextToken r kind size level bytes
   pub leaves : room + size ≡ r.limits.length
   pub told : shown ≡ e.Text (e.line_text_kind kind) ∷ content_events token.content
+
+-- a double so far, at a stage, for which the limit of length leaves this many bytes
+pub record DoubleBegun (r : Rules) (stage : DoubleStage) (room : ℕ) (level : ℕ) (bytes : List ℕ) (shown : List Event) :
+    Type 0 where
+  pub size : ℕ
+  pub token : IsDoubleToken r stage size level bytes
+  pub leaves : room + size ≡ r.limits.length
+  pub told : shown ≡ e.Text e.Double ∷ content_events token.content
 
 -- the line of a leaf and its CR, and all of its events except the end of its text; a zero big number is not included,
 -- because its text begins at its LF
@@ -292,6 +301,7 @@ abbrev pub TokenHas : Rules → Token → ℕ → List ℕ → List Event → Ty
 TokenHas r AtStart level bytes shown = ⊥
 TokenHas r AtEnd level bytes shown = ⊥
 TokenHas r (InLine room) level bytes shown = LineBegun r room level bytes shown
+TokenHas r (InDouble stage room) level bytes shown = DoubleBegun r stage room level bytes shown
 TokenHas r AtLineLf level bytes shown = TextReturned r level bytes shown
 TokenHas r AtIntSign level bytes shown = IsNumberBegun r t.Int Unsigned level bytes × (shown ≡ [])
 TokenHas r (AtIntFirst negative) level bytes shown = SignBegun r t.Int negative level bytes shown

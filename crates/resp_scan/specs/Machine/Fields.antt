@@ -7,7 +7,7 @@ use Rattle.resp_scan.specs.declared.machine.EventTag.TheVariants as tag
 use Rattle.resp_scan.specs.declared.machine.Machine.{Machine}
 use Rattle.resp_scan.specs.declared.machine.Advance.{Advance}
 use Rattle.resp_scan.specs.declared.event.TextKind.TheVariants as text
-use Rattle.resp_scan.specs.Machine.Tokens.{Token, Place, at, token_at_boundary, Null, Truth, Int, Text, Digit, TextEnd, Open, Close, AtStart, InLine, AtLineLf, AtIntSign, AtIntFirst, InInt, AtIntLf, AtBigSign, AtBigFirst, InBigZeros, AtBigZeroLf, AtBigDigit, InBig, AtTextEnd, AtNullOne, AtNullCr, AtNullLf, AtBool, AtBoolCr, AtBoolLf, AtBulkHead, AtArrayHead, AtHead, InHead, AtHeadLf, AtFormat, AtFormatSecond, AtFormatThird, AtFormatColon, InContent, AtContentCr, AtContentLf, AtStreamCr, AtStreamLf, AtChunk, InChunk, AtChunkCr, AtChunkLf, AtOpenCr, AtOpenLf, AtCloseCr, AtCloseLf, Dead}
+use Rattle.resp_scan.specs.Machine.Tokens.{Token, Place, at, token_at_boundary, Null, Truth, Int, Text, Digit, TextEnd, Open, Close, AtStart, InLine, InDouble, AtLineLf, AtIntSign, AtIntFirst, InInt, AtIntLf, AtBigSign, AtBigFirst, InBigZeros, AtBigZeroLf, AtBigDigit, InBig, AtTextEnd, AtNullOne, AtNullCr, AtNullLf, AtBool, AtBoolCr, AtBoolLf, AtBulkHead, AtArrayHead, AtHead, InHead, AtHeadLf, AtFormat, AtFormatSecond, AtFormatThird, AtFormatColon, InContent, AtContentCr, AtContentLf, AtStreamCr, AtStreamLf, AtChunk, InChunk, AtChunkCr, AtChunkLf, AtOpenCr, AtOpenLf, AtCloseCr, AtCloseLf, Dead}
 use Rattle.resp_scan.specs.Machine.Scan.{Out, More, Gave, Part, Whole, Bad, scan}
 
 -- the token of a state, with the fields that it uses
@@ -16,6 +16,7 @@ token_at state.Start m = AtStart
 token_at state.Boundary m = token_at_boundary (reverse m.frames.items)
 token_at state.Line m = InLine m.room
 token_at state.LineLf m = AtLineLf
+token_at state.Double m = InDouble m.stage m.room
 token_at state.IntSign m = AtIntSign
 token_at state.IntFirst m = AtIntFirst m.negative
 token_at state.Int m = InInt m.negative m.magnitude

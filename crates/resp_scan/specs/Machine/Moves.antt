@@ -1,7 +1,11 @@
 -- The machine, byte by byte: the place after one more byte.
-use Rattle.std.specs.Prelude.{ℕ, ◌+◌, ◌-◌, ◌*◌, ◌%◌, Bool, true, false, ◌&&◌, ℤ, pos, cond, eqb, nat_le, List, [], ◌∷◌, Option, None, Some}
+use Rattle.std.specs.Prelude.{ℕ, ◌+◌, ◌-◌, ◌*◌, ◌%◌, Bool, true, false, ℤ, pos, cond, eqb, nat_le, List, [], ◌∷◌, Option, None, Some}
 use Rattle.std.specs.Str.{byte}
 use Rattle.std.proofs.Common.{neg_ℤ}
+pub use Rattle.resp_value.specs.DoubleStages.{is_digit}
+use Rattle.resp_value.specs.DoubleStages.{stage_after, stage_needs}
+use Rattle.resp_value.specs.declared.double_stage.DoubleStage.{DoubleStage}
+use Rattle.resp_value.specs.declared.double_stage.DoubleStage.TheVariants.{Begun as DoubleBegun}
 use Rattle.resp_value.specs.declared.cause.Cause.{Cause}
 use Rattle.resp_value.specs.declared.cause.Cause.TheVariants as cause
 use Rattle.resp_value.specs.declared.version.Version.{Version}
@@ -15,7 +19,7 @@ use Rattle.resp_scan.specs.declared.frame.Shape.TheVariants.{Left, Begun}
 use Rattle.resp_scan.specs.declared.machine.Head.{Head}
 use Rattle.resp_scan.specs.declared.machine.Head.TheVariants as head
 use Rattle.resp_scan.specs.Machine.Magnitudes.{greatest_magnitude}
-use Rattle.resp_scan.specs.Machine.Tokens.{Token, Place, Happening, Move, Go, Byte, Give, Refuse, at, at_boundary, Null, Truth, Int, Text, TextEnd, Open, Close, AtStart, AtEnd, InLine, AtLineLf, AtIntSign, AtIntFirst, InInt, AtIntLf, AtBigSign, AtBigFirst, InBigZeros, AtBigZeroLf, AtBigDigit, InBig, AtTextEnd, AtNullOne, AtNullCr, AtNullLf, AtBool, AtBoolCr, AtBoolLf, AtBulkHead, AtArrayHead, AtHead, InHead, AtHeadLf, AtFormat, AtFormatSecond, AtFormatThird, AtFormatColon, InContent, AtContentCr, AtContentLf, AtStreamCr, AtStreamLf, AtChunk, InChunk, AtChunkCr, AtChunkLf, AtOpenCr, AtOpenLf, AtCloseCr, AtCloseLf, Dead}
+use Rattle.resp_scan.specs.Machine.Tokens.{Token, Place, Happening, Move, Go, Byte, Give, Refuse, at, at_boundary, Null, Truth, Int, Text, TextEnd, Open, Close, AtStart, AtEnd, InLine, InDouble, AtLineLf, AtIntSign, AtIntFirst, InInt, AtIntLf, AtBigSign, AtBigFirst, InBigZeros, AtBigZeroLf, AtBigDigit, InBig, AtTextEnd, AtNullOne, AtNullCr, AtNullLf, AtBool, AtBoolCr, AtBoolLf, AtBulkHead, AtArrayHead, AtHead, InHead, AtHeadLf, AtFormat, AtFormatSecond, AtFormatThird, AtFormatColon, InContent, AtContentCr, AtContentLf, AtStreamCr, AtStreamLf, AtChunk, InChunk, AtChunkCr, AtChunkLf, AtOpenCr, AtOpenLf, AtCloseCr, AtCloseLf, Dead}
 use Rattle.resp_scan.specs.Machine.Room.{has_total_room, over_total, is_full, after_begin, begin_cause, with_shape}
 use Rattle.resp_scan.specs.Machine.Heads.{over, may_end, streamed_kind, string_cause, aggregate_cause, after_streamed_open, content_at, chunk_at, head_move, first_needed}
 
@@ -23,10 +27,6 @@ use Rattle.resp_scan.specs.Machine.Heads.{over, may_end, streamed_kind, string_c
 abbrev pub with_sign : Bool → ℕ → ℤ
 with_sign true n = neg_ℤ (pos n)
 with_sign false n = pos n
-
--- whether the byte is a digit
-abbrev pub is_digit : ℕ → Bool
-is_digit b = nat_le (byte "0") b && nat_le b (byte "9")
 
 -- a move, unless a cause rejects it
 abbrev pub move_unless : Option Cause → Move → Move
@@ -61,6 +61,17 @@ big_first s negative b = cond (is_digit b) (big_digit s negative b) (Refuse caus
 abbrev pub content_byte : Place → ℕ → ℕ → (ℕ → Token) → Move
 content_byte s used room token = cond (eqb room 0) (Refuse cause.Length)
     (cond (has_total_room s used 2) (Byte (at s (token (room - 1)))) (Refuse cause.Total))
+
+-- a byte of a double that leads to this stage, unless length or total leaves too little for what the double then needs
+abbrev pub double_byte : Place → ℕ → ℕ → DoubleStage → Move
+double_byte s used room next = cond (nat_le room (stage_needs next)) (Refuse cause.Length)
+    (cond (has_total_room s used (stage_needs next + 2)) (Byte (at s (InDouble next (room - 1)))) (Refuse cause.Total))
+
+-- a byte of a double, given the stage that it leads to; only CR may follow where it leads to none
+abbrev pub double_next : Place → ℕ → ℕ → DoubleStage → ℕ → Option DoubleStage → Move
+double_next s used room stage b None = cond (eqb (stage_needs stage) 0) (only_byte (byte "\r") b (Go (at s AtLineLf)))
+    (Refuse cause.Syntax)
+double_next s used room stage b (Some next) = double_byte s used room next
 
 -- Heads.
 
@@ -111,6 +122,11 @@ begin_move s needed t = move_unless (begin_cause s needed) (Go (at (after_begin 
 abbrev pub line_move : Place → Happening → Move
 line_move s e = move_unless (begin_cause s 2) (Give e (at (after_begin s) (InLine s.bounds.length)))
 
+-- a double begins, with its event
+abbrev pub double_line_move : Place → Move
+double_line_move s = move_unless (begin_cause s 3)
+    (Give (Text text.Double) (at (after_begin s) (InDouble DoubleBegun s.bounds.length)))
+
 -- an aggregate of version 3 begins, unless it exceeds the limit of depth
 abbrev pub aggregate_move : Place → Head → Move
 aggregate_move s h = cond (is_full s) (Refuse cause.Depth) (begin_move s (first_needed h) (AtHead h))
@@ -138,7 +154,7 @@ may_close (f ∷ fs) = may_close_of f.kind f.shape
 
 -- a double begins, if doubles are allowed
 abbrev pub double_move : Place → Move
-double_move s = cond s.bounds.doubles (move_in_three s.version (line_move s (Text text.Double))) (Refuse cause.Double)
+double_move s = cond s.bounds.doubles (move_in_three s.version (double_line_move s)) (Refuse cause.Double)
 
 -- a streamed aggregate closes, and a map only between whole pairs
 abbrev pub close_move : Place → Move
@@ -187,6 +203,7 @@ next_in AtEnd s used b = Refuse cause.Syntax
 next_in (InLine room) s used b =
     cond (eqb b (byte "\r")) (Go (at s AtLineLf))
     (cond (eqb b (byte "\n")) (Refuse cause.Syntax) (content_byte s used room InLine))
+next_in (InDouble stage room) s used b = double_next s used room stage b (stage_after stage b)
 next_in AtLineLf s used b = only_byte (byte "\n") b (Give TextEnd (at_boundary s))
 next_in AtIntSign s used b =
     cond (eqb b (byte "-")) (move_unless (over_total s used 3) (Go (at s (AtIntFirst true))))

@@ -3,13 +3,14 @@ use Rattle.std.specs.Prelude.{◌≡◌, ◌<◌, ◌≤◌, ℕ, ◌+◌, ◌-�
 use Rattle.resp_value.specs.Bounds.{AreBounds}
 use Rattle.resp_value.specs.declared.kind.OpenKind.{OpenKind}
 use Rattle.resp_value.specs.declared.kind.OpenKind.TheVariants.{Map}
+use Rattle.resp_value.specs.DoubleStages.{stage_needs}
 use Rattle.resp_scan.specs.declared.frame.Frame.{Frame}
 use Rattle.resp_scan.specs.declared.frame.Shape.{Shape}
 use Rattle.resp_scan.specs.declared.frame.Shape.TheVariants.{Left, Begun}
 use Rattle.resp_scan.specs.declared.machine.Head.{Head}
 use Rattle.resp_scan.specs.declared.machine.Head.TheVariants as head
 use Rattle.resp_scan.specs.Machine.Magnitudes.{greatest_magnitude}
-use Rattle.resp_scan.specs.Machine.Tokens.{Token, Place, AtStart, AtEnd, InLine, AtLineLf, AtIntSign, AtIntFirst, InInt, AtIntLf, AtBigSign, AtBigFirst, InBigZeros, AtBigZeroLf, AtBigDigit, InBig, AtTextEnd, AtNullOne, AtNullCr, AtNullLf, AtBool, AtBoolCr, AtBoolLf, AtBulkHead, AtArrayHead, AtHead, InHead, AtHeadLf, AtFormat, AtFormatSecond, AtFormatThird, AtFormatColon, InContent, AtContentCr, AtContentLf, AtStreamCr, AtStreamLf, AtChunk, InChunk, AtChunkCr, AtChunkLf, AtOpenCr, AtOpenLf, AtCloseCr, AtCloseLf, Dead}
+use Rattle.resp_scan.specs.Machine.Tokens.{Token, Place, AtStart, AtEnd, InLine, InDouble, AtLineLf, AtIntSign, AtIntFirst, InInt, AtIntLf, AtBigSign, AtBigFirst, InBigZeros, AtBigZeroLf, AtBigDigit, InBig, AtTextEnd, AtNullOne, AtNullCr, AtNullLf, AtBool, AtBoolCr, AtBoolLf, AtBulkHead, AtArrayHead, AtHead, InHead, AtHeadLf, AtFormat, AtFormatSecond, AtFormatThird, AtFormatColon, InContent, AtContentCr, AtContentLf, AtStreamCr, AtStreamLf, AtChunk, InChunk, AtChunkCr, AtChunkLf, AtOpenCr, AtOpenLf, AtCloseCr, AtCloseLf, Dead}
 use Rattle.resp_scan.specs.Machine.Room.{begun_count}
 use Rattle.resp_scan.specs.Machine.Heads.{first_needed, head_needed, may_end, is_aggregate}
 use Rattle.resp_scan.specs.Machine.Moves.{is_digit}
@@ -42,6 +43,7 @@ abbrev pub token_needed : Token → ℕ → List Frame → ℕ
 token_needed AtStart depth fs = start_needed fs
 token_needed AtEnd depth fs = 0
 token_needed (InLine room) depth fs = 2
+token_needed (InDouble stage room) depth fs = stage_needs stage + 2
 token_needed AtLineLf depth fs = 1
 token_needed AtIntSign depth fs = 3
 token_needed (AtIntFirst negative) depth fs = 3

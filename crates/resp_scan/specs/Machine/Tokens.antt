@@ -2,6 +2,7 @@
 use Rattle.std.specs.Prelude.{ℕ, Bool, cond, eqb, ℤ, List, [], ◌∷◌, Option}
 use Rattle.resp_value.specs.Bounds.{Bounds}
 use Rattle.resp_value.specs.declared.cause.Cause.{Cause}
+use Rattle.resp_value.specs.declared.double_stage.DoubleStage.{DoubleStage}
 use Rattle.resp_value.specs.declared.version.Version.{Version}
 use Rattle.resp_scan.specs.declared.event.TextKind.{TextKind}
 use Rattle.resp_value.specs.declared.kind.OpenKind.{OpenKind}
@@ -18,6 +19,8 @@ pub data Token : Type 0 where
   AtEnd : Token
   -- a line for which the limit of length leaves this many bytes
   InLine : ℕ → Token
+  -- a double at this stage, for which the limit of length leaves this many bytes
+  InDouble : DoubleStage → ℕ → Token
   AtLineLf : Token
   AtIntSign : Token
   -- an integer of this sign, with the digits so far

@@ -3,6 +3,8 @@ use Rattle.std.specs.Str.{byte}
 use Rattle.std.specs.Prelude.{◌≡◌, ◌⊎◌, ◌+◌, ◌-◌, ◌*◌, get_or, Bool, true, false, ℕ, ◌<◌, ◌≤◌, List, ◌++◌, length, take, Result, Err, IfOk, IfErr}
 use Rattle.resp_value.specs.Rules.{Rules, WithinTotal}
 use Rattle.resp_value.specs.Spellings.{IsViable}
+use Rattle.resp_value.specs.DoubleStages.{stage_needs}
+use Rattle.resp_scan.specs.declared.doubles.DoubleRun.{DoubleRun}
 use Rattle.resp_scan.specs.declared.event.Fault.{Fault}
 use Rattle.resp_scan.specs.declared.event.Scanned.{Scanned}
 use Rattle.resp_scan.specs.declared.event.ScanError as error
@@ -93,11 +95,10 @@ abbrev pub turn_of : Bool → Turn
 turn_of true = On
 turn_of false = Stopped
 
--- the tags of lines of text
+-- the tags of simple strings and errors
 abbrev pub IsLineTag : EventTag → TextKind → Type 0
 IsLineTag tag.Simple kind = kind ≡ text.Simple
 IsLineTag tag.Error kind = kind ≡ text.Error
-IsLineTag tag.Double kind = kind ≡ text.Double
 IsLineTag _ kind = ⊥
 
 -- CR LF is at this index of the piece
@@ -105,6 +106,11 @@ pub record EndsAt (piece : List ℕ) (at : ℕ) : Type 0 where
   pub within : at + 2 ≤ length piece
   pub cr : get_or piece at 0 ≡ byte "\r"
   pub lf : get_or piece (at + 1) 0 ≡ byte "\n"
+
+-- the bytes of a double end at this index, at a stage at which a double may end
+pub record EndsDouble (run : DoubleRun) (at : ℕ) : Type 0 where
+  pub counts : run.count ≡ at
+  pub may_end : stage_needs run.stage ≡ 0
 
 -- a digit is at this index of the piece
 abbrev pub HasDigitAt : List ℕ → ℕ → Type 0

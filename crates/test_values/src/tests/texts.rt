@@ -84,7 +84,7 @@ const TEXTS: [&[u8]; 25] = [
     b"!7\r\nERR x\r\n\r\n",
     b"=15\r\ntxt:Some string\r\n",
     b",3.14\r\n",
-    b",\r\n",
+    b",-1.5E+3\r\n",
     b",-nan\r\n",
     b"%1\r\n,1\r\n,1.0\r\n",
     b"|1\r\n,1\r\n+a\r\n,2\r\n",

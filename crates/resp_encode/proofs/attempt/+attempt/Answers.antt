@@ -3,7 +3,7 @@ use Rattle.std.specs.Bool.{OnTrue}
 use Rattle.resp_value.specs.Data.{data_of_list, in_turn, aggregate, count}
 use Rattle.resp_value.specs.Data as d
 use Rattle.resp_value.specs.Canonical.{IsWhole, HasNoPush}
-use Rattle.resp_value.specs.Values.{datum_of, pair_data, extended, line_text, content_bytes, is_negative, digits_text}
+use Rattle.resp_value.specs.Values.{datum_of, pair_data, extended, line_text, double_text, content_bytes, is_negative, digits_text}
 use Rattle.resp_value.proofs.DatumOf.{datum_of-Array, datum_of-Set, datum_of-Map, datum_of-Attr, in_turn_is_whole, annotated_is_whole}
 use Rattle.resp_encode.specs.Walks.Attempts.{Attempt, AttemptEach, AttemptInside}
 use Rattle.resp_value.specs.Kinds.{kind_of}
@@ -33,7 +33,7 @@ attempt_value-returns-in-Bool-clause-attempt t c =
     elim c.in-Bool.is [
       | inl bool ↦ ends (d.Bool bool.0) (ap datum_of bool.1) c.args.deeper
       | inr (inl error) ↦ ends (d.Error (line_text error.0)) (ap datum_of error.1) c.args.deeper
-      | inr (inr (inl double)) ↦ ends (d.Double (line_text double.0)) (ap datum_of double.1) c.args.deeper
+      | inr (inr (inl double)) ↦ ends (d.Double (double_text double.0)) (ap datum_of double.1) c.args.deeper
       | inr (inr (inr (inl bulk))) ↦ ends (d.BulkError (content_bytes bulk.0)) (ap datum_of bulk.1) c.args.deeper
       | inr (inr (inr (inr (inl text)))) ↦ ends (d.Verbatim text.0 (content_bytes text.1)) (ap datum_of text.2) c.args.deeper
       | inr (inr (inr (inr (inr big)))) ↦ ends (d.Big (is_negative big.0) (digits_text big.0)) (ap datum_of big.1) c.args.deeper

@@ -9,10 +9,10 @@ pub returns-in-Some-clause-found : goal.returns-in-Some-clause-found
 returns-in-Some-clause-found c = c.in-Some.ensures.found c.args.version Bulk c.in-36.is refl tt (λ two. tt)
 
 pub returns-in-43-clause-found : goal.returns-in-43-clause-found
-returns-in-43-clause-found c = c.line.ensures.found c.args.version Simple c.in-43.is refl (λ two. tt) (λ off. tt)
+returns-in-43-clause-found c = c.line.ensures.found c.args.version Simple c.in-43.is refl tt
 
 pub returns-in-45-clause-found : goal.returns-in-45-clause-found
-returns-in-45-clause-found c = c.line-in-45.ensures.found c.args.version Error c.in-45.is refl (λ two. tt) (λ off. tt)
+returns-in-45-clause-found c = c.line-in-45.ensures.found c.args.version Error c.in-45.is refl tt
 
 pub returns-in-None-clause-none : goal.returns-in-None-clause-none
 returns-in-None-clause-none c = none_by c.null.result _ _ (λ none level.

@@ -2,7 +2,7 @@ use Rattle.std.proofs.Common.{◌≡◌, ◌+◌, drop, refl, sym, subst, arith,
 use Rattle.resp_value.specs.Rules.{rules_under}
 use Rattle.resp_flat.specs.Plain.{IsLeafAt}
 use Rattle.resp_value.specs.Bytes.{crlf}
-use Rattle.resp_value.specs.Trees.{Double, BulkError}
+use Rattle.resp_value.specs.Trees.{BulkError}
 use Rattle.resp_flat.proofs.LeavesRead.{plain_null_read}
 use Rattle.resp_flat.proofs.NoneThere.{none_by}
 use Rattle.resp_flat.proofs.LeavesNotThere.{no_bulk_error, no_double, no_double_allowed, no_other_in_three, no_plain_null, no_truth, no_verbatim}
@@ -16,7 +16,7 @@ returns-else-not-is_line_end-clause-found c version three =
     (subst (λ k. drop (c.args.at + 1) c.args.buffer.now ≡ crlf (drop k c.args.buffer.now)) (omega arith) ends) (omega (arith, within)))
 
 pub returns-else-not-doubles-clause-found : goal.returns-else-not-doubles-clause-found
-returns-else-not-doubles-clause-found c version three = c.line.ensures.found version Double c.in-44.is refl (λ two. absurd (three two)) (λ off. search rules)
+returns-else-not-doubles-clause-found c version three = c.double.ensures.found version three (search rules) c.in-44.is
 
 pub returns-in-33-clause-found : goal.returns-in-33-clause-found
 returns-in-33-clause-found c version three = c.string.ensures.found version BulkError c.in-33.is refl tt three
@@ -29,8 +29,8 @@ returns-then-not-doubles-clause-none c version level has two =
     no_double_allowed (rules_under version c.args.limits.now) level c.args.buffer.now c.args.at c.in-44.is (search rules) has
 
 pub returns-else-not-doubles-clause-none : goal.returns-else-not-doubles-clause-none
-returns-else-not-doubles-clause-none c = none_by c.line.result _ _ (λ none version level has two.
-    no_double (rules_under version c.args.limits.now) level c.args.buffer.now c.args.at c.in-44.is none has) c.line.ensures.none
+returns-else-not-doubles-clause-none c = none_by c.double.result _ _ (λ none version level has two.
+    no_double (rules_under version c.args.limits.now) level c.args.buffer.now c.args.at c.in-44.is none has) c.double.ensures.none
 
 pub returns-in-33-clause-none : goal.returns-in-33-clause-none
 returns-in-33-clause-none c = none_by c.string.result _ _ (λ none version level has two.

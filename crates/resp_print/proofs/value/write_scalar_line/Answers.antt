@@ -1,15 +1,16 @@
-use Rattle.std.proofs.Common.{◌≡◌, ◌++◌, ℕ, ℤ, Bool, List, codes, length, refl, ap, subst, sym, ◌∙◌, append_assoc}
+use Rattle.std.proofs.Common.{◌≡◌, ◌++◌, ℕ, ℤ, Bool, Result, Ok, Err, OnOk, List, codes, length, refl, ap, subst, sym, ◌∙◌, append_assoc}
 use Rattle.resp_value.specs.Data as d
-use Rattle.resp_value.specs.Values.{content_bytes, datum_of, line_text}
+use Rattle.resp_value.specs.Values.{content_bytes, datum_of, double_text, line_text}
 use Rattle.resp_value.specs.declared.content.Content.{Content}
 use Rattle.resp_value.specs.declared.digits.Digits.{Digits}
+use Rattle.resp_value.specs.declared.double.Double.{Double}
 use Rattle.resp_value.specs.declared.line.Line.{Line}
 use Rattle.resp_value.specs.declared.value.Value.{Value}
 use Rattle.resp_value.specs.declared.value.Value.TheVariants as value
 use Rattle.resp_print.specs.Kept.{ScalarFor, TextFor}
 use Rattle.resp_print.specs.Shown.{count_text, quoted_text, scalar_line_within, shown_part}
 use Rattle.resp_print.specs.Written.{WritesText}
-use Rattle.resp_print.proofs.Kept.{text_for, text_of}
+use Rattle.resp_print.proofs.Kept.{double_for, text_for, text_of}
 use Rattle.resp_print.proofs.value.write_scalar_line.Goals as goal
 
 -- the line of a text, part after part
@@ -52,17 +53,22 @@ returns-in-Error g c = λ s is whole rest for.
       printed.1,
     )
 
+-- what holds anyhow holds of a result that is no error
+on_ok : {A E : Type 0} (P : Type 0) (result : Result A E) → P → OnOk result P
+on_ok P (Ok x) p = p
+on_ok P (Err x) p = tt
+
 pub returns-in-Double : goal.returns-in-Double
 returns-in-Double g c = λ s is whole rest for.
     let most = c.args.most in
     let lengths = c.args.lengths.now.now in
-    let of_value : d.Double (line_text c.in-Double.text) ≡ s = same_scalar _ _ (sym (ap datum_of c.in-Double.is) ∙ is) in
-    let kept = text_for most lengths (d.Double (line_text c.in-Double.text)) whole rest (subst (λ z. ScalarFor most lengths z whole rest) (sym of_value) for) in
-    let w = text_of whole in
-    let printed = c.write_kept_string-in-Double.ensures w rest (subst (λ z. TextFor most lengths z w rest) (sym c.text-in-Double.ensures.text) kept.1) in (
-      subst (WritesText _ _ _ _ c.write_kept_string-in-Double.result)
-          (text_parts (codes "double") (quoted_text (shown_part most w)) (count_text most (length w)) ∙ ap (scalar_line_within most) (sym kept.0)) printed.0,
-      printed.1,
+    let t = double_text c.in-Double.double in
+    let of_value : d.Double t ≡ s = same_scalar _ _ (sym (ap datum_of c.in-Double.is) ∙ is) in
+    let kept = double_for most lengths t whole rest (subst (λ z. ScalarFor most lengths z whole rest) (sym of_value) for) in (
+      subst (WritesText _ _ _ _ c.write_string.result)
+          (text_parts (codes "double") (quoted_text (shown_part most c.text-text.result.now)) (count_text most (length c.text-text.result.now)) ∙
+          ap (λ z. scalar_line_within most (d.Double z)) c.text-text.ensures.text ∙ ap (scalar_line_within most) (sym kept.0)) c.write_string.ensures,
+      on_ok _ c.write_string.result kept.1,
     )
 
 pub returns-in-Bulk : goal.returns-in-Bulk
@@ -108,7 +114,7 @@ returns-in-Verbatim g c = λ s is whole rest for.
 
 -- the other values have members
 has_members : (v : Value) (s : d.Scalar) → datum_of v ≡ d.scalar s → (v ≡ value.Null → ⊥) → ((b : Bool) → v ≡ value.Bool b → ⊥) →
-    ((i : ℤ) → v ≡ value.Int i → ⊥) → ((x : Line) → v ≡ value.Simple x → ⊥) → ((x : Line) → v ≡ value.Error x → ⊥) → ((x : Line) → v ≡ value.Double x → ⊥) →
+    ((i : ℤ) → v ≡ value.Int i → ⊥) → ((x : Line) → v ≡ value.Simple x → ⊥) → ((x : Line) → v ≡ value.Error x → ⊥) → ((x : Double) → v ≡ value.Double x → ⊥) →
     ((x : Content) → v ≡ value.Bulk x → ⊥) → ((x : Content) → v ≡ value.BulkError x → ⊥) → ((f : List ℕ) (x : Content) → v ≡ value.Verbatim f x → ⊥) →
     ((x : Digits) → v ≡ value.Big x → ⊥) → ⊥
 has_members value.Null s e a b i x1 x2 x3 x4 x5 x6 x7 = a refl

@@ -1,4 +1,4 @@
-use Rattle.resp_value.proofs.Examples.{plus_and_zeros, minus_zero, length_with_zero, bulk_null, array_null, plain_null, big_minus_zero, verbatim, chunks, streamed_map, attribute, error, bulk_error, set, streamed_array, streamed_set, double, empty_double}
+use Rattle.resp_value.proofs.Examples.{plus_and_zeros, minus_zero, length_with_zero, bulk_null, array_null, plain_null, big_minus_zero, verbatim, chunks, streamed_map, attribute, error, bulk_error, set, streamed_array, streamed_set, double, exponent, infinity, negative_nan}
 use Rattle.resp_value.proofs.laws.texts_and_their_values.Goals as goal
 
 pub returns-clause-plus_and_zeros : goal.returns-clause-plus_and_zeros
@@ -52,5 +52,11 @@ returns-clause-streamed_set c = streamed_set
 pub returns-clause-double : goal.returns-clause-double
 returns-clause-double c = double
 
-pub returns-clause-empty_double : goal.returns-clause-empty_double
-returns-clause-empty_double c = empty_double
+pub returns-clause-exponent : goal.returns-clause-exponent
+returns-clause-exponent c = exponent
+
+pub returns-clause-infinity : goal.returns-clause-infinity
+returns-clause-infinity c = infinity
+
+pub returns-clause-negative_nan : goal.returns-clause-negative_nan
+returns-clause-negative_nan c = negative_nan
