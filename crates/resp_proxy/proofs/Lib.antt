@@ -5,6 +5,8 @@ pub mod Tellings
 pub mod Holdings
 pub mod Replyings
 pub mod Rejectings
+pub mod OpeningReplies
+pub mod Openeds
 pub mod Probings
 pub mod Gives
 pub mod Readings

@@ -20,7 +20,7 @@ frame_rejected rules line m front piece (frame.Fault fault) rejects other = reje
 frame_rejected rules line m front piece frame.NotACommand rejects other = absurd (other refl)
 frame_rejected rules line m front piece frame.OutOfMemory rejects other = tt
 
-begins_value : (rules : Rules) (front piece : List ℕ) (found : Frame) (P : List ℕ → Type 0) → IsFrame rules front piece found → P (text_of found) →
+pub begins_value : (rules : Rules) (front piece : List ℕ) (found : Frame) (P : List ℕ → Type 0) → IsFrame rules front piece found → P (text_of found) →
     BeginsSpelling rules (front ++ piece) P
 begins_value rules front piece found P f holds =
     let used = used_of found in

@@ -1,4 +1,6 @@
 -- The definitions that callers read.
+pub mod Attaching
+pub mod Opened
 pub mod Clients
 pub mod Failing
 pub mod Proxies
@@ -15,6 +17,7 @@ pub mod Leaving
 pub mod Moving
 pub mod Wishes
 pub mod Openings
+pub mod OpeningReplies
 pub mod Hellos
 pub mod Terms
 pub mod Unfinished

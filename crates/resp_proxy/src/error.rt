@@ -62,6 +62,20 @@ pub enum EnterError {
     Own(OwnError),
 }
 
+/// Why a connection to the server does not continue a line.
+#[derive(Clone, Copy, Debug, PartialEq, Eq, Error)]
+pub enum AttachError {
+    /// The server has not accepted all commands of the opening.
+    #[error("the server has not accepted the connection")]
+    NotAccepted,
+    /// The connection was brought into another setting than that of the line.
+    #[error("the connection is in another setting")]
+    OtherSetting,
+    /// A command of which a byte was sent over the last connection waits for its reply.
+    #[error("a command that was sent over the last connection waits")]
+    Waits,
+}
+
 /// Why a line is not used for another setting.
 #[derive(Clone, Copy, Debug, PartialEq, Eq, Error)]
 pub enum RenewError {

@@ -75,8 +75,8 @@ pub(crate) fn send<W: Sink>(board: &mut Board, line: LineId, writer: &mut W) -> 
 }
 
 /// Returns whether bytes wait for the server.
-fn left_to_server(board: &Board, line: LineId) -> WriteOutcome
-    ensures { result ≡ WriteOutcome.All → unsent_on board.now line.place ≡ [] }
+pub(crate) fn left_to_server(board: &Board, line: LineId) -> WriteOutcome
+    ensures { (result ≡ WriteOutcome.All) ↔ (unsent_on board.now line.place ≡ []) }
 {
     if board.to_server(line).is_empty() {
         WriteOutcome::All

@@ -5,6 +5,7 @@
 #![tactic(auto)]
 
 mod answer;
+mod attaching;
 mod carrying;
 mod client;
 mod commands;
@@ -19,6 +20,8 @@ mod lines;
 mod local;
 mod moving;
 mod name_counts;
+mod opening;
+mod opening_replies;
 mod part;
 mod probing;
 mod proxy;
@@ -35,10 +38,12 @@ mod wish;
 pub use answer::no_more;
 pub use client::Client;
 pub use counts::{Counted, Numbers};
-pub use error::{ClientError, CommandName, EnterError, RenewError, ServerError};
+pub use error::{AttachError, ClientError, CommandName, EnterError, RenewError, ServerError};
 pub use giving::WriteOutcome;
 pub use latency::Times;
 pub use moving::is_client_name;
+pub use opening::{Ending, Opening, OpeningProgress};
+pub use opening_replies::OpeningError;
 pub use proxy::Proxy;
 pub use server_line::ServerLine;
 pub use setting::{Login, Setting};

@@ -18,12 +18,13 @@ ghost use Rattle.resp_io.specs.Devices.{count_after};
 ghost use Rattle.resp_value.specs.Rules.{rules_under};
 ghost use Rattle.resp_proxy.specs.Leaving.{LeavesRightly};
 ghost use Rattle.resp_proxy.specs.Proxies.{HasNoClient, HasRoomFor, WhereHeld, lost_text, out_of_step_text, admits_own, board_in, replied_to, terms_of, settings_of, with_own_admitted, with_replied, with_terms};
-ghost use Rattle.resp_proxy.specs.ServerLines.{HasBegunBy, WhereBegunBy, expected_of, line_of, prober_of, reply_limits, reply_rules_of, route_to, server_begun};
+ghost use Rattle.resp_proxy.specs.ServerLines.{HasBegunBy, WhereBegunBy, expected_of, is_attached, line_of, line_terms, prober_of, reply_limits, reply_rules_of, route_to, server_begun, situation_on};
+ghost use Rattle.resp_proxy.specs.Wishes.{situation_of};
 
 use crate::client::Client;
 use crate::counts::{Counted, Numbers, ProxyCounts};
 use crate::error::{ClientError, RenewError, ServerError};
-use crate::giving::{WriteOutcome, give, has_no_bytes, has_no_command, send};
+use crate::giving::{WriteOutcome, give, has_no_bytes, has_no_command, left_to_server, send};
 use crate::intake::Intake;
 use crate::latency::Times;
 use crate::probing::{Prober, echo};
@@ -116,6 +117,8 @@ impl Proxy {
     pub fn open_line(&mut self, setting: &Setting) -> Result<ServerLine, AllocError>
         ensures opened { IfOk result (λ line.
             HasOpenedLine (board_in self.old) (board_in self.new) (line_of line)) }
+        ensures setting { IfOk result (λ line. situation_on line ≡ situation_of setting.now) }
+        ensures detached { IfOk result (λ line. is_attached line ≡ false) }
         ensures begun { IfOk result (λ line. HasBegunBy line []) }
         ensures rules { IfOk result (λ line. reply_rules_of line ≡
             rules_under setting.now.version (reply_limits (settings_of self.old) setting.now.version)) }
@@ -126,20 +129,23 @@ impl Proxy {
         ensures same_replied { replied_to self.new ≡ replied_to self.old }
     {
         let replies = reply_frames(self.alloc, &self.settings, setting.version)?;
+        let setting = setting.copy(self.alloc)?;
         self.counts.make_room_for_line()?;
         let id = self.board.open_line()?;
         self.counts.add_line(id);
         Ok(ServerLine::new(self.alloc, id, replies, setting))
     }
 
-    /// Uses a line for another setting, over a connection that is opened next. The clients on the line
-    /// have to be gone.
+    /// Uses a line for another setting. No connection continues it before [`Proxy::attach`]. The
+    /// clients on the line have to be gone.
     ///
     /// # Errors
     ///
     /// `Waits` if a command waits on the line, and otherwise `OutOfMemory` if an allocation fails.
     /// Nothing changes.
     pub fn renew_line(&self, line: &mut ServerLine, setting: &Setting) -> Result<(), RenewError>
+        ensures setting { OnOk result (situation_on line.new ≡ situation_of setting.now) }
+        ensures detached { OnOk result (is_attached line.new ≡ false) }
         ensures begun { OnOk result (HasBegunBy line.new []) }
         ensures rules { OnOk result (reply_rules_of line.new ≡
             rules_under setting.now.version (reply_limits (settings_of self.now) setting.now.version)) }
@@ -153,12 +159,18 @@ impl Proxy {
         if self.board.waiting(line.id) > 0 {
             return Err(RenewError::Waits);
         }
+        let Ok(copy) = setting.copy(self.alloc) else {
+            return Err(RenewError::OutOfMemory);
+        };
         match reply_frames(self.alloc, &self.settings, setting.version) {
             Ok(replies) => {
-                line.renew(replies, setting);
+                line.renew(replies, copy);
                 Ok(())
             }
-            Err(AllocError) => Err(RenewError::OutOfMemory),
+            Err(AllocError) => {
+                drop(copy);
+                Err(RenewError::OutOfMemory)
+            }
         }
     }
 
@@ -215,8 +227,8 @@ impl Proxy {
         ensures expected { OnOk result (expected_of line.new ≡ []) }
         ensures run { KeepsRun (board_in self.old) (board_in self.new) }
         ensures unchanged { OnErr result (line.new ≡ line.old) }
-        ensures same_line { line_of line.new ≡ line_of line.old }
-        ensures same_rules { reply_rules_of line.new ≡ reply_rules_of line.old }
+        ensures attached { is_attached line.new ≡ is_attached line.old }
+        ensures same_line { line_terms line.new ≡ line_terms line.old }
         ensures same_begun { server_begun line.new ≡ server_begun line.old }
         ensures same_terms { terms_of self.new ≡ terms_of self.old }
         ensures same_replied { replied_to self.new ≡ replied_to self.old }
@@ -252,8 +264,8 @@ impl Proxy {
         ensures unchanged { OnErr result (KeepsRun (board_in self.old) (board_in self.new)) }
         ensures same_expected { OnErr result (expected_of line.new ≡ expected_of line.old) }
         ensures same_prober { prober_of line.new ≡ prober_of line.old }
-        ensures same_line { line_of line.new ≡ line_of line.old }
-        ensures same_rules { reply_rules_of line.new ≡ reply_rules_of line.old }
+        ensures attached { is_attached line.new ≡ is_attached line.old }
+        ensures same_line { line_terms line.new ≡ line_terms line.old }
         ensures same_begun { server_begun line.new ≡ server_begun line.old }
         ensures same_clients { KeepsOpen (board_in self.old) (board_in self.new) }
         ensures same_terms { terms_of self.new ≡ terms_of self.old }
@@ -290,8 +302,8 @@ impl Proxy {
             IfSome (waiting_count (board_in self.old) who) (λ count.
             length (expected_of line.new) ≡ min (length (expected_of line.old)) (count * 39))) }
         ensures same_prober { prober_of line.new ≡ prober_of line.old }
-        ensures same_line { line_of line.new ≡ line_of line.old }
-        ensures same_rules { reply_rules_of line.new ≡ reply_rules_of line.old }
+        ensures attached { is_attached line.new ≡ is_attached line.old }
+        ensures same_line { line_terms line.new ≡ line_terms line.old }
         ensures same_begun { server_begun line.new ≡ server_begun line.old }
         ensures same_clients { KeepsOpen (board_in self.old) (board_in self.new) }
         ensures same_terms { terms_of self.new ≡ terms_of self.old }
@@ -507,9 +519,10 @@ impl Proxy {
         ensures same_expected { expected_of line.new ≡ expected_of line.old }
         ensures same_clients { KeepsOpen (board_in self.old) (board_in self.new) }
         ensures same_terms { terms_of self.new ≡ terms_of self.old }
-        ensures same_rules { reply_rules_of line.new ≡ reply_rules_of line.old }
-        ensures same_line { line_of line.new ≡ line_of line.old }
+        ensures same_line { line_terms line.new ≡ line_terms line.old }
         ensures forgotten { OnErr result (HasBegunBy line.new []) }
+        ensures detached { OnErr result (is_attached line.new ≡ false) }
+        ensures attached { OnOk result (is_attached line.new ≡ is_attached line.old) }
     {
         let taken = take_replies(
             &mut line.replies,
@@ -524,6 +537,7 @@ impl Proxy {
         match taken {
             Ok(()) => {}
             Err(error) => {
+                line.is_attached = false;
                 forget(&mut line.begun);
                 return Err(error);
             }
@@ -547,10 +561,10 @@ impl Proxy {
         ensures told { Tells (line_of line.old) (replied_to self.old) (replied_to self.new)
             (board_in self.old) (board_in self.new) }
         ensures begun { HasBegunBy line.new [] }
+        ensures detached { is_attached line.new ≡ false }
         ensures same_prober { prober_of line.new ≡ prober_of line.old }
         ensures same_expected { expected_of line.new ≡ expected_of line.old }
-        ensures same_rules { reply_rules_of line.new ≡ reply_rules_of line.old }
-        ensures same_line { line_of line.new ≡ line_of line.old }
+        ensures same_line { line_terms line.new ≡ line_terms line.old }
         ensures same_clients { KeepsOpen (board_in self.old) (board_in self.new) }
         ensures same_terms { terms_of self.new ≡ terms_of self.old }
     {
@@ -571,10 +585,10 @@ impl Proxy {
         ensures told { Tells (line_of line.old) (replied_to self.old) (replied_to self.new)
             (board_in self.old) (board_in self.new) }
         ensures begun { HasBegunBy line.new [] }
+        ensures detached { is_attached line.new ≡ false }
         ensures same_prober { prober_of line.new ≡ prober_of line.old }
         ensures same_expected { expected_of line.new ≡ expected_of line.old }
-        ensures same_rules { reply_rules_of line.new ≡ reply_rules_of line.old }
-        ensures same_line { line_of line.new ≡ line_of line.old }
+        ensures same_line { line_terms line.new ≡ line_terms line.old }
         ensures same_clients { KeepsOpen (board_in self.old) (board_in self.new) }
         ensures same_terms { terms_of self.new ≡ terms_of self.old }
     {
@@ -590,13 +604,14 @@ impl Proxy {
         ensures told { Tells (line_of line.old) (replied_to self.old) (replied_to self.new)
             (board_in self.old) (board_in self.new) }
         ensures begun { HasBegunBy line.new [] }
+        ensures detached { is_attached line.new ≡ false }
         ensures same_prober { prober_of line.new ≡ prober_of line.old }
         ensures same_expected { expected_of line.new ≡ expected_of line.old }
-        ensures same_rules { reply_rules_of line.new ≡ reply_rules_of line.old }
-        ensures same_line { line_of line.new ≡ line_of line.old }
+        ensures same_line { line_terms line.new ≡ line_terms line.old }
         ensures same_clients { KeepsOpen (board_in self.old) (board_in self.new) }
         ensures same_terms { terms_of self.new ≡ terms_of self.old }
     {
+        line.is_attached = false;
         forget(&mut line.begun);
         let begun = self.board.begun(line.id);
         note_first(&mut self.replied, &self.board, line.id, begun)?;
@@ -618,13 +633,14 @@ impl Proxy {
         ensures told { Tells (line_of line.old) (replied_to self.old) (replied_to self.new)
             (board_in self.old) (board_in self.new) }
         ensures begun { HasBegunBy line.new [] }
+        ensures detached { is_attached line.new ≡ false }
         ensures same_prober { prober_of line.new ≡ prober_of line.old }
         ensures same_expected { expected_of line.new ≡ expected_of line.old }
-        ensures same_rules { reply_rules_of line.new ≡ reply_rules_of line.old }
-        ensures same_line { line_of line.new ≡ line_of line.old }
+        ensures same_line { line_terms line.new ≡ line_terms line.old }
         ensures same_clients { KeepsOpen (board_in self.old) (board_in self.new) }
         ensures same_terms { terms_of self.new ≡ terms_of self.old }
     {
+        line.is_attached = false;
         forget(&mut line.begun);
         let all = self.board.waiting(line.id);
         note_first(&mut self.replied, &self.board, line.id, all)?;
@@ -658,7 +674,8 @@ impl Proxy {
         give(&mut self.board, client.route.client, writer)
     }
 
-    /// Writes bytes that wait to be sent over a line, with at most one write.
+    /// Writes bytes that wait to be sent over a line, with at most one write. Without a connection
+    /// nothing is written.
     pub fn send<W: Sink>(&mut self, line: &ServerLine, writer: &mut W) -> WriteOutcome
         ensures sends { SendsSome (line_of line.now) (W.written writer.old)
             (W.written writer.new) (board_in self.old) (board_in self.new) }
@@ -667,12 +684,18 @@ impl Proxy {
             unsent_on (board_in self.new) (line_of line.now) ≡ [] }
         ensures idle { unsent_on (board_in self.old) (line_of line.now) ≡ [] →
             result ≡ WriteOutcome.All }
-        ensures once { (unsent_on (board_in self.old) (line_of line.now) ≡ []) ⊎
+        ensures once { is_attached line.now ≡ true →
+            (unsent_on (board_in self.old) (line_of line.now) ≡ []) ⊎
             (W.calls writer.new ≡ count_after 1 (W.calls writer.old)) }
+        // Without a connection nothing is written.
+        ensures detached { is_attached line.now ≡ false → writer.new ≡ writer.old }
         ensures same_clients { KeepsOpen (board_in self.old) (board_in self.new) }
         ensures same_terms { terms_of self.new ≡ terms_of self.old }
         ensures same_replied { replied_to self.new ≡ replied_to self.old }
     {
+        if !line.is_attached {
+            return left_to_server(&self.board, line.id);
+        }
         send(&mut self.board, line.id, writer)
     }
 }

@@ -1,11 +1,14 @@
 //! A connection to a server that clients share, without its socket.
 
-ghost use Rattle.std.specs.Prelude.{◌≡◌, ◌↔◌, None, [], false, IfOk};
+ghost use Rattle.std.specs.Prelude.{◌≡◌, ◌↔◌, None, [], false, true, IfOk};
 ghost use Rattle.resp_frames.specs.Framing.{HasBegun, IsReady, frame_rules};
-ghost use Rattle.resp_proxy.specs.ServerLines.{HasBegunBy, expected_of, has_doubles, line_of, prober_of, reply_limits, reply_rules_of, route_to};
+ghost use Rattle.resp_proxy.specs.Opened.{hello_in, situation_in};
+ghost use Rattle.resp_proxy.specs.ServerLines.{HasBegunBy, expected_of, has_doubles, hello_on, is_attached, line_of, line_terms, prober_of, reply_limits, reply_rules_of, route_to, situation_on, with_situation};
+ghost use Rattle.resp_proxy.specs.Wishes.{MeansSame, situation_of};
 ghost use Rattle.resp_value.specs.Rules.{Rules, rules_under};
 
 use crate::latency::Waits;
+use crate::opening::Opening;
 use crate::probing::Prober;
 use crate::route::Route;
 use crate::setting::Setting;
@@ -23,10 +26,16 @@ use std::marker::Model;
 /// line.
 #[derive(Drop)]
 pub struct ServerLine {
+    alloc: Global,
     pub(crate) id: LineId,
-    version: Version,
+    /// The setting in which the commands on the line run.
+    pub(crate) setting: Setting,
     /// Whether every client begins on this line.
     is_first: bool,
+    /// Whether a connection to the server continues the line.
+    pub(crate) is_attached: bool,
+    /// The reply of the server to HELLO over the last connection, or empty.
+    pub(crate) hello: Vec<u8>,
     /// Finds the replies of the server.
     pub(crate) replies: Frames,
     /// The incomplete reply of the server.
@@ -39,14 +48,19 @@ pub struct ServerLine {
 impl Model for ServerLine {
     ghost use Rattle.resp_frames.specs.Framing.{HasBegun, IsReady, frame_rules};
     ghost use Rattle.resp_proxy.specs.ServerLines.{Lined};
+    ghost use Rattle.resp_proxy.specs.Wishes.{situation_of};
 
     ghost Value = { Lined };
 
     ghost view = { λ l. record {
-      id = l.id;
-      version = l.version;
-      is_first = l.is_first;
-      reply_rules = frame_rules l.replies;
+      terms = record {
+        id = l.id;
+        situation = situation_of l.setting;
+        is_first = l.is_first;
+        rules = frame_rules l.replies;
+      };
+      attached = l.is_attached;
+      hello = l.hello.items;
       begun = l.begun;
       prober = l.prober.who;
       expected = l.prober.expected.items;
@@ -56,25 +70,64 @@ impl Model for ServerLine {
 }
 
 impl ServerLine {
-    /// Returns the state of a line for a setting, before any byte of the server was received. It has
-    /// no prober.
-    pub(crate) fn new(alloc: Global, id: LineId, replies: Frames, setting: &Setting) -> ServerLine
+    /// Returns the state of a line for a setting, before its first connection. It has no prober.
+    pub(crate) fn new(alloc: Global, id: LineId, replies: Frames, setting: Setting) -> ServerLine
         requires { IsReady replies }
         ensures line { line_of result ≡ id.place }
+        ensures setting { situation_on result ≡ situation_of setting }
         ensures begun { HasBegunBy result [] }
+        ensures detached { is_attached result ≡ false }
         ensures nobody { prober_of result ≡ None }
         ensures expected { expected_of result ≡ [] }
         ensures rules { reply_rules_of result ≡ frame_rules replies }
     {
+        let is_first = setting.is_first();
         ServerLine {
+            alloc,
             id,
-            version: setting.version,
-            is_first: setting.is_first(),
+            setting,
+            is_first,
+            is_attached: false,
+            hello: Vec::new(alloc),
             replies,
             begun: Begun::new(),
             prober: Prober::none(alloc),
             waits: Waits::new(alloc),
         }
+    }
+
+    /// Returns the setting in which the commands on the line run.
+    pub fn setting(&self) -> &Setting
+        ensures { situation_of result.now ≡ situation_on self.now }
+    {
+        &self.setting
+    }
+
+    /// Uses this setting for the next connection if it differs at most in its password. Otherwise
+    /// nothing changes.
+    pub fn set_setting(&mut self, setting: Setting)
+        ensures set { MeansSame (situation_of setting) (situation_on self.old) →
+            line_terms self.new ≡ with_situation (situation_of setting) (line_terms self.old) }
+        ensures other { (MeansSame (situation_of setting) (situation_on self.old) → ⊥) →
+            self.new ≡ self.old }
+    {
+        if setting.is_same(&self.setting) {
+            self.setting = setting;
+        }
+    }
+
+    /// Returns whether a connection to the server continues the line.
+    pub fn is_attached(&self) -> bool
+        ensures { result ≡ is_attached self.now }
+    {
+        self.is_attached
+    }
+
+    /// Returns the reply of the server to HELLO over the last connection, or an empty text.
+    pub fn hello(&self) -> &[u8]
+        ensures { result.now ≡ hello_on self.now }
+    {
+        &self.hello
     }
 
     /// Returns where the commands of a client on this line go.
@@ -84,7 +137,7 @@ impl ServerLine {
         Route {
             client,
             line: self.id,
-            version: self.version,
+            version: self.setting.version,
             is_first: self.is_first,
         }
     }
@@ -101,17 +154,38 @@ impl ServerLine {
         self.prober.who == Some(who)
     }
 
-    /// Uses the line in another setting, over a connection that has sent nothing.
-    pub(crate) fn renew(&mut self, replies: Frames, setting: &Setting)
-        requires { IsReady replies }
+    /// Lets a connection that was brought into a setting continue the line.
+    pub(crate) fn continue_over(&mut self, opening: Opening)
+        ensures attached { is_attached self.new ≡ true }
         ensures begun { HasBegunBy self.new [] }
+        ensures hello { hello_on self.new ≡ hello_in opening }
+        ensures setting { line_terms self.new ≡
+            with_situation (situation_in opening) (line_terms self.old) }
+        ensures same_prober { prober_of self.new ≡ prober_of self.old }
+        ensures same_expected { expected_of self.new ≡ expected_of self.old }
+    {
+        let (setting, hello) = opening.into_parts();
+        self.setting = setting;
+        self.hello = hello;
+        self.is_attached = true;
+        self.begun = Begun::new();
+    }
+
+    /// Uses the line in another setting, before its first connection.
+    pub(crate) fn renew(&mut self, replies: Frames, setting: Setting)
+        requires { IsReady replies }
+        ensures setting { situation_on self.new ≡ situation_of setting }
+        ensures begun { HasBegunBy self.new [] }
+        ensures detached { is_attached self.new ≡ false }
         ensures same_line { line_of self.new ≡ line_of self.old }
         ensures rules { reply_rules_of self.new ≡ frame_rules replies }
         ensures same_prober { prober_of self.new ≡ prober_of self.old }
         ensures same_expected { expected_of self.new ≡ expected_of self.old }
     {
-        self.version = setting.version;
         self.is_first = setting.is_first();
+        self.setting = setting;
+        self.is_attached = false;
+        self.hello = Vec::new(self.alloc);
         self.replies = replies;
         self.begun = Begun::new();
     }

@@ -1,11 +1,11 @@
 //! Visits of connections.
 
-ghost use Rattle.std.specs.Prelude.{◌≡◌, ◌↔◌, ◌<◌, None, [], false, length, true, IfErr, IfSome, OnOk};
+ghost use Rattle.std.specs.Prelude.{◌≡◌, ◌↔◌, ◌<◌, None, [], false, length, true, IfErr, IfSome, OnErr, OnOk};
 ghost use Rattle.resp_board.specs.Runs.{KeepsOpen, KeepsOthers, WhereRun, unsent_on};
 ghost use Rattle.resp_proxy.specs.Clients.{client_id, is_closing, route_of};
 ghost use Rattle.resp_proxy.specs.Leaving.{LeavesRightly};
 ghost use Rattle.resp_proxy.specs.Proxies.{HasRoomFor, WhereHeld, board_in, replied_to, terms_of};
-ghost use Rattle.resp_proxy.specs.ServerLines.{WhereBegunBy, expected_of, line_of, prober_of, reply_rules_of, server_begun};
+ghost use Rattle.resp_proxy.specs.ServerLines.{WhereBegunBy, expected_of, is_attached, line_of, line_terms, prober_of, reply_rules_of, server_begun};
 ghost use Rattle.resp_proxy.specs.Probing.{KeepsStep};
 ghost use Rattle.resp_proxy.specs.Telling.{Tells};
 ghost use Rattle.resp_proxy.specs.Visiting.{HasNothingFor, ReadsClient, ReadsServer, TriesRead, VisitsClient, VisitsServer};
@@ -150,7 +150,7 @@ impl Proxy {
     }
 
     /// Reads bytes of the server over a line, and writes bytes that wait for it, with at most one read
-    /// and one write.
+    /// and one write. Without a connection, which [`Proxy::attach`] tells, nothing is read or written.
     pub fn visit_server<R: Source, W: Sink>(
         &mut self,
         line: &mut ServerLine,
@@ -172,18 +172,23 @@ impl Proxy {
         // Each client whose bytes are other than before is returned by `next_replied`.
         ensures told { Tells (line_of line.old) (replied_to self.old) (replied_to self.new)
             (board_in self.old) (board_in self.new) }
-        ensures once { R.calls reader.new ≡ count_after 1 (R.calls reader.old) }
-        ensures failed { result.read ≡ None →
+        ensures once { is_attached line.old ≡ true →
+            R.calls reader.new ≡ count_after 1 (R.calls reader.old) }
+        ensures failed { is_attached line.old ≡ true → result.read ≡ None →
             R.failures reader.new ≡ count_after 1 (R.failures reader.old) }
+        // Without a connection nothing is read and nothing is written.
+        ensures detached { is_attached line.old ≡ false →
+            (reader.new ≡ reader.old) × (writer.new ≡ writer.old) }
         ensures all { result.written ≡ WriteOutcome.All →
             unsent_on (board_in self.new) (line_of line.new) ≡ [] }
         // One write if the bytes of the server were usable and bytes wait.
-        ensures writes { OnOk result.end ((unsent_on (board_in self.new) (line_of line.new) ≡ [] → ⊥) →
-            W.calls writer.new ≡ count_after 1 (W.calls writer.old)) }
+        ensures writes { is_attached line.old ≡ true → OnOk result.end
+            ((unsent_on (board_in self.new) (line_of line.new) ≡ [] → ⊥) → W.calls writer.new ≡ count_after 1 (W.calls writer.old)) }
+        ensures attached { OnOk result.end (is_attached line.new ≡ is_attached line.old) }
+        ensures closed { OnErr result.end (is_attached line.new ≡ false) }
         ensures same_prober { prober_of line.new ≡ prober_of line.old }
         ensures same_expected { expected_of line.new ≡ expected_of line.old }
-        ensures same_rules { reply_rules_of line.new ≡ reply_rules_of line.old }
-        ensures same_line { line_of line.new ≡ line_of line.old }
+        ensures same_line { line_terms line.new ≡ line_terms line.old }
         ensures same_clients { KeepsOpen (board_in self.old) (board_in self.new) }
         ensures same_terms { terms_of self.new ≡ terms_of self.old }
     {
@@ -214,16 +219,22 @@ impl Proxy {
             (board_in self.new)))) }
         ensures told { Tells (line_of line.old) (replied_to self.old) (replied_to self.new)
             (board_in self.old) (board_in self.new) }
-        ensures once { R.calls reader.new ≡ count_after 1 (R.calls reader.old) }
-        ensures failed { result.0 ≡ None →
+        ensures once { is_attached line.old ≡ true →
+            R.calls reader.new ≡ count_after 1 (R.calls reader.old) }
+        ensures failed { is_attached line.old ≡ true → result.0 ≡ None →
             R.failures reader.new ≡ count_after 1 (R.failures reader.old) }
+        ensures detached { is_attached line.old ≡ false → reader.new ≡ reader.old }
+        ensures attached { OnOk result.1 (is_attached line.new ≡ is_attached line.old) }
+        ensures closed { OnErr result.1 (is_attached line.new ≡ false) }
         ensures same_prober { prober_of line.new ≡ prober_of line.old }
         ensures same_expected { expected_of line.new ≡ expected_of line.old }
-        ensures same_rules { reply_rules_of line.new ≡ reply_rules_of line.old }
-        ensures same_line { line_of line.new ≡ line_of line.old }
+        ensures same_line { line_terms line.new ≡ line_terms line.old }
         ensures same_clients { KeepsOpen (board_in self.old) (board_in self.new) }
         ensures same_terms { terms_of self.new ≡ terms_of self.old }
     {
+        if !line.is_attached {
+            return (None, Ok(()));
+        }
         match reader.read(buffer) {
             Ok(count) => (Some(count), self.from_server(line, &buffer[..count])),
             Err(DeviceFault) => (None, Ok(())),

@@ -1,17 +1,16 @@
 //! The connection to the server that the clients in one setting share.
 
+use crate::arrival::Arrival;
 use crate::messages::{Messages, Topic};
 use crate::server_link::{Loss, ServerLink};
 use crate::stalled::Stalled;
 use mio::Registry;
 use resp_board::ClientId;
 use resp_net::cause::cause_of;
-use resp_net::stream::Stream;
 use resp_proxy::{Counted, Proxy, RenewError, ServerError, ServerLine, Setting};
 use std::alloc::{AllocError, Global};
 use std::fs::Files;
 use std::io;
-use std::io::ErrorKind;
 use std::net::Net;
 use std::random::RandomSource;
 use std::time::Duration;
@@ -53,7 +52,7 @@ pub(crate) struct Channel {
 
 impl Channel {
     /// Returns a channel without clients, before the first attempt to connect to the server.
-    /// `shown` is its setting, or empty for the first one.
+    /// `shown` is the setting as it is shown, or empty for the first one.
     ///
     /// # Errors
     ///
@@ -62,9 +61,10 @@ impl Channel {
         alloc: Global,
         proxy: &mut Proxy,
         link: ServerLink,
+        setting: &Setting,
         shown: String,
     ) -> Result<Self, AllocError> {
-        match proxy.open_line(link.setting()) {
+        match proxy.open_line(setting) {
             Ok(line) => Ok(Channel {
                 alloc,
                 line,
@@ -88,8 +88,8 @@ impl Channel {
         }
     }
 
-    /// Uses a channel without clients for the setting of this link, before the first attempt to
-    /// connect to the server.
+    /// Uses a channel without clients for this setting, before the first attempt to connect to the
+    /// server.
     ///
     /// # Errors
     ///
@@ -98,9 +98,10 @@ impl Channel {
         &mut self,
         proxy: &Proxy,
         link: ServerLink,
+        setting: &Setting,
         shown: String,
     ) -> Result<(), RenewError> {
-        if let Err(error) = proxy.renew_line(&mut self.line, link.setting()) {
+        if let Err(error) = proxy.renew_line(&mut self.line, setting) {
             drop(link);
             drop(shown);
             return Err(error);
@@ -134,7 +135,7 @@ impl Channel {
 
     /// Returns whether the channel is in this setting.
     pub(crate) fn is_in(&self, setting: &Setting) -> bool {
-        self.link.setting().is_same(setting)
+        self.line.setting().is_same(setting)
     }
 
     /// Counts a client that uses the line from now on.
@@ -286,7 +287,8 @@ impl Channel {
     /// given up.
     fn ask(&mut self, net: &impl Net, proxy: &Proxy, messages: &mut Messages, registry: &Registry) {
         let now = self.link.now();
-        let Some(why) = self.link.ask(net, registry, proxy.waiting(&self.line) > 0) else {
+        let waits = proxy.waiting(&self.line) > 0;
+        let Some(why) = self.link.ask(net, registry, self.line.setting(), waits) else {
             return;
         };
         messages.add(
@@ -331,43 +333,34 @@ impl Channel {
         if self.is_losing || !self.is_used(proxy) {
             return;
         }
-        if let Err(error) = self.link.connect(net, registry) {
+        if let Err(error) = self.link.connect(net, registry, self.line.setting()) {
             self.tell_failure(messages, &error);
         }
     }
 
     /// Notes whether the pending connection is open.
     fn finish_connecting(&mut self, proxy: &mut Proxy, messages: &mut Messages) {
-        match self.link.finish_connecting() {
+        match self.link.finish_connecting(proxy, &mut self.line) {
             Ok(false) => {}
             Ok(true) => self.tell_connected(proxy, messages),
             Err(error) => self.tell_failure(messages, &error),
         }
     }
 
-    /// Uses a connection that is already open in this setting. `hello` is the reply to HELLO over
-    /// it.
+    /// Uses a connection that has arrived in the setting of the line.
     ///
     /// # Errors
     ///
-    /// The error of the system, or an error of kind `OutOfMemory` if commands that were sent over a
-    /// lost connection, at least in part, still wait for a reply. The connection is closed.
+    /// Those of [`ServerLink::adopt`].
     pub(crate) fn adopt(
         &mut self,
         proxy: &mut Proxy,
-        stream: Stream,
-        hello: Vec<u8>,
+        arrival: Arrival,
         registry: &Registry,
         messages: &mut Messages,
     ) -> io::Result<()> {
         self.finish_losing(proxy);
-        if self.is_losing {
-            // The replies over this connection would go to the clients of those commands.
-            drop(stream);
-            drop(hello);
-            return Err(ErrorKind::OutOfMemory.into());
-        }
-        self.link.adopt(stream, hello, registry)?;
+        self.link.adopt(proxy, &mut self.line, arrival, registry)?;
         self.tell_connected(proxy, messages);
         Ok(())
     }

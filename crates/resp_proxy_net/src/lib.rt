@@ -6,7 +6,6 @@
 
 mod arrival;
 mod channel;
-mod entry;
 mod input_end;
 mod learner;
 mod messages;

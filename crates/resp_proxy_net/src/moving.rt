@@ -1,8 +1,7 @@
 //! How clients of the proxy move to another setting, or to a connection of their own.
 
-use crate::arrival::{Arrival, Arrived};
+use crate::arrival::{Arrival, Arrived, REJECTED};
 use crate::channel::{Channel, NOT_CONNECTED};
-use crate::entry::Entry;
 use crate::own::Own;
 use crate::plan::{OwnRefusal, Plan};
 use crate::proxied::{Move, Proxied, Seat};
@@ -13,8 +12,7 @@ use resp_net::cause::cause_of;
 use resp_net::closing::refuse;
 use resp_net::service::Next;
 use resp_net::spare::Spare;
-use resp_net::stream::Stream;
-use resp_proxy::{Counted, Setting};
+use resp_proxy::{Counted, Ending, Setting};
 use std::alloc::AllocError;
 use std::io;
 use std::io::ErrorKind;
@@ -56,7 +54,7 @@ impl Relay {
             return Ok(None);
         };
         let limits = &self.settings.proxy.limits;
-        Plan::of(self.alloc, &seat.client, channel.link.setting(), limits)
+        Plan::of(self.alloc, &seat.client, channel.line.setting(), limits)
     }
 
     /// Closes a client of the proxy, and its connection.
@@ -128,11 +126,14 @@ impl Relay {
             return Err(ErrorKind::NotConnected.into());
         };
         let link = &channel.link;
-        let entry = match &plan.setting {
-            Some(setting) => Entry::new(self.alloc, setting, link.login()),
-            None => entry_with(link, seat.client.rest().get(..plan.used)),
+        let opening = match &plan.setting {
+            Some(setting) => link.opening(setting, Ending::Setting),
+            None => {
+                let command = seat.client.rest().get(..plan.used).unwrap_or(b"");
+                link.opening(channel.line.setting(), Ending::Command(command))
+            }
         };
-        let Ok(entry) = entry else {
+        let Ok(opening) = opening else {
             return Err(ErrorKind::OutOfMemory.into());
         };
         Arrival::begin(
@@ -140,7 +141,7 @@ impl Relay {
             link.backend(),
             registry,
             connection.server_token(),
-            entry,
+            opening,
         )
     }
 
@@ -191,13 +192,15 @@ impl Relay {
     ///
     /// # Errors
     ///
-    /// Those of [`Arrival::go_on`], and an error of kind `TimedOut` if it is given up.
+    /// Those of [`Arrival::go_on`], an error of kind `TimedOut` if it is given up, and an error of kind
+    /// `PermissionDenied` if the server sent bytes other than replies to the commands.
     fn arrived(&self, moving: &mut Move) -> io::Result<Arrived> {
-        let arrived = moving.arrival.go_on()?;
-        if matches!(arrived, Arrived::No) && self.is_late(moving.since) {
-            return Err(ErrorKind::TimedOut.into());
+        let arrival = &mut moving.arrival;
+        match arrival.go_on()? {
+            Arrived::No if self.is_late(moving.since) => Err(ErrorKind::TimedOut.into()),
+            Arrived::Rejected if arrival.refusal().is_empty() => Err(arrival.rejection(REJECTED)),
+            arrived => Ok(arrived),
         }
-        Ok(arrived)
     }
 
     /// Replies with the reason why there is no connection.
@@ -221,7 +224,7 @@ impl Relay {
             arrival,
             ..
         } = moving;
-        let next = self.answer(connection, seat, used_by(plan), arrival.entry().refusal());
+        let next = self.answer(connection, seat, used_by(plan), arrival.refusal());
         drop(arrival);
         next
     }
@@ -305,14 +308,12 @@ impl Relay {
             drop(arrival);
             return Ok(());
         }
-        let (stream, entry) = arrival.into_parts();
-        let hello = entry.hello().to_vec(self.alloc);
-        drop(entry);
-        match hello {
-            Ok(hello) => self.adopt(registry, number, stream, hello),
-            Err(_) => {
-                drop(stream);
-                Err(ErrorKind::OutOfMemory.into())
+        let (proxy, messages) = (&mut self.proxy, &mut self.messages);
+        match self.channels.get_mut(number) {
+            Some(channel) => channel.adopt(proxy, arrival, registry, messages),
+            None => {
+                drop(arrival);
+                Err(ErrorKind::NotConnected.into())
             }
         }
     }
@@ -327,31 +328,11 @@ impl Relay {
         };
         channel.link.set_now(now);
         if number > 0 {
-            channel.link.set_setting(setting);
+            channel.line.set_setting(setting);
         } else {
             drop(setting);
         }
         !channel.link.is_open()
-    }
-
-    /// Makes this stream the connection of the channel with this number. `hello` is the server's
-    /// reply to HELLO.
-    fn adopt(
-        &mut self,
-        registry: &Registry,
-        number: usize,
-        stream: Stream,
-        hello: Vec<u8>,
-    ) -> io::Result<()> {
-        let (proxy, messages) = (&mut self.proxy, &mut self.messages);
-        match self.channels.get_mut(number) {
-            Some(channel) => channel.adopt(proxy, stream, hello, registry, messages),
-            None => {
-                drop(stream);
-                drop(hello);
-                Err(ErrorKind::NotConnected.into())
-            }
-        }
     }
 
     /// Carries out the command with which a client asked for the setting of this number, whose
@@ -363,8 +344,8 @@ impl Relay {
             drop(plan);
             return self.close_client(seat);
         };
-        let link = &channel.link;
-        match plan.carry_out(self.alloc, &mut seat.client, link.setting(), link.hello()) {
+        let line = &channel.line;
+        match plan.carry_out(self.alloc, &mut seat.client, line.setting(), line.hello()) {
             Ok(reply) => self.seat(connection, number, seat, used, &reply),
             Err(AllocError) => self.close_client(seat),
         }
@@ -442,11 +423,11 @@ impl Relay {
             return self.close_client(seat);
         };
         let link = &channel.link;
-        let Ok(entry) = entry_of_own(link) else {
+        let Ok(opening) = link.opening(channel.line.setting(), Ending::Check) else {
             return self.close_client(seat);
         };
         let token = connection.server_token();
-        match Arrival::begin(rt, link.backend(), registry, token, entry) {
+        match Arrival::begin(rt, link.backend(), registry, token, opening) {
             Ok(arrival) => self.wait_for_own(connection, seat, arrival),
             Err(error) => {
                 self.close_seat(seat);
@@ -565,43 +546,29 @@ impl Relay {
         setting: &Setting,
         from: usize,
     ) -> Result<(), AllocError> {
-        let link = self.new_link(number, setting, from)?;
+        let link = self.new_link(number, from)?;
         let shown = setting.shown(self.alloc)?;
         match self.channels.get_mut(number) {
-            Some(channel) => match channel.renew(&self.proxy, link, shown) {
+            Some(channel) => match channel.renew(&self.proxy, link, setting, shown) {
                 Ok(()) => Ok(()),
                 Err(_) => Err(AllocError),
             },
             None => {
-                let channel = Channel::new(self.alloc, &mut self.proxy, link, shown)?;
+                let channel = Channel::new(self.alloc, &mut self.proxy, link, setting, shown)?;
                 add(&mut self.channels, channel)
             }
         }
     }
 
-    /// Returns a link in a setting to the server of the setting with the number `from`.
-    fn new_link(
-        &self,
-        number: usize,
-        setting: &Setting,
-        from: usize,
-    ) -> Result<ServerLink, AllocError> {
+    /// Returns a link to the server of the setting with the number `from`.
+    fn new_link(&self, number: usize, from: usize) -> Result<ServerLink, AllocError> {
         let Some(channel) = self.channels.get(from) else {
             return Err(AllocError);
         };
         let backend = channel.link.backend().copy(self.alloc)?;
         let login = channel.link.login().to_vec(self.alloc)?;
-        let setting = setting.copy(self.alloc)?;
         let patience = self.settings.patience;
-        Ok(ServerLink::new(
-            self.alloc,
-            backend,
-            number,
-            setting,
-            login,
-            patience,
-            Spare::none(),
-        ))
+        Ok(ServerLink::new(self.alloc, backend, number, login, patience, Spare::none()))
     }
 }
 
@@ -610,20 +577,4 @@ fn used_by(plan: Plan) -> usize {
     let used = plan.used;
     drop(plan);
     used
-}
-
-/// Returns the commands that bring a client's own connection into the setting of a link. If the
-/// setting needs no command, this is a PING, whose reply shows that the server replies.
-fn entry_of_own(link: &ServerLink) -> Result<Entry, AllocError> {
-    let mut entry = link.entry()?;
-    entry.check()?;
-    Ok(entry)
-}
-
-/// Returns the commands that bring a new connection into the setting of a link, and after them this
-/// command of a client.
-fn entry_with(link: &ServerLink, command: Option<&[u8]>) -> Result<Entry, AllocError> {
-    let mut entry = link.entry()?;
-    entry.ask(command.unwrap_or(b""))?;
-    Ok(entry)
 }

@@ -2,16 +2,15 @@
 
 ghost use Rattle.std.specs.Prelude.{◌<◌, length};
 
-use crate::arrival::{Arrival, Arrived};
-use crate::entry::write_some;
-use crate::server_link::REJECTED;
+use crate::arrival::{Arrival, Arrived, REJECTED};
 use bytes::BytesMut;
 use resp_net::lane::{Lane, Progress, TURNS, next_of};
+use resp_net::non_blocking::Output;
 use resp_net::service::Next;
 use resp_net::stream::Stream;
 use std::alloc::Global;
 use std::io;
-use std::io::ErrorKind;
+use std::io::{ErrorKind, Write};
 use std::time::Duration;
 
 /// A connection to the server for one client. The bytes of both sides are forwarded unchanged.
@@ -75,7 +74,7 @@ impl Own {
             match self.server.go_on()? {
                 Arrived::No if is_late => return Err(ErrorKind::TimedOut.into()),
                 Arrived::No => return Ok(Next::Wait),
-                Arrived::Rejected => return Err(self.server.entry().rejection(REJECTED)),
+                Arrived::Rejected => return Err(self.server.rejection(REJECTED)),
                 Arrived::Yes => self.is_open = true,
             }
         }
@@ -122,7 +121,7 @@ impl Own {
 
     /// Writes a part of the bytes that the client sent before.
     fn write_first(&mut self) -> Progress {
-        match write_some(self.server.stream(), self.first.as_slice(), 0) {
+        match write_some(self.server.stream(), self.first.as_slice()) {
             Some(0) => return Progress::Waits,
             Some(count) => self.first.advance(count.min(self.first.len())),
             None => return Progress::Failed,
@@ -131,5 +130,16 @@ impl Own {
             self.first = BytesMut::new(self.alloc);
         }
         Progress::MayGoOn
+    }
+}
+
+/// Writes a part of these bytes. Returns the number of bytes, or `None` if the
+/// socket failed.
+fn write_some(stream: &Stream, bytes: &[u8]) -> Option<usize> {
+    let mut writer = Output::new(stream);
+    match writer.write(bytes) {
+        Ok(count) if !writer.has_failed() => Some(count),
+        Err(_) if writer.would_wait() => Some(0),
+        _ => None,
     }
 }

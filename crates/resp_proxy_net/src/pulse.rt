@@ -1,7 +1,6 @@
 //! The second connection, over which a server that does not reply is asked whether it is busy.
 
-use crate::arrival::{Arrival, Arrived};
-use crate::entry::words_of;
+use crate::arrival::{Arrival, Arrived, words_of};
 use std::time::Duration;
 
 /// The error of a server that runs a script for longer than it lets others wait.
@@ -52,14 +51,14 @@ impl Pulse {
         };
         match arrival.go_on() {
             Ok(Arrived::No) => {}
-            Ok(Arrived::Rejected) if arrival.entry().refusal().starts_with(BUSY) => {}
+            Ok(Arrived::Rejected) if arrival.refusal().starts_with(BUSY) => {}
             Ok(Arrived::Yes | Arrived::Rejected) | Err(_) => self.end(),
         }
     }
 
     /// Returns the words of the server if it has replied that it is busy.
     pub(crate) fn busy(&self) -> Option<&str> {
-        let refusal = self.arrival.as_ref()?.entry().refusal();
+        let refusal = self.arrival.as_ref()?.refusal();
         if refusal.starts_with(BUSY) {
             Some(words_of(refusal))
         } else {

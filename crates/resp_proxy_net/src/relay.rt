@@ -129,9 +129,9 @@ impl Relay {
         let setting = Setting::first(alloc)?;
         let spare = Spare::new(rt);
         let messages = Messages::new(rt, alloc)?;
-        let link = ServerLink::new(alloc, backend, 0, setting, login, settings.patience, spare);
+        let link = ServerLink::new(alloc, backend, 0, login, settings.patience, spare);
         let mut proxy = Proxy::new(alloc, settings.proxy)?;
-        let first = Channel::new(alloc, &mut proxy, link, String::new(alloc))?;
+        let first = Channel::new(alloc, &mut proxy, link, &setting, String::new(alloc))?;
         let channels = only(alloc, first)?;
         Ok(Relay {
             alloc,

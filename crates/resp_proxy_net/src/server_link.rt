@@ -2,19 +2,20 @@
 
 ghost use Rattle.std.specs.Prelude.{◌<◌, length};
 
-use crate::arrival::Arrival;
-use crate::entry::{Entry, EntryProgress, PING, words_of};
+use crate::arrival::{Arrival, Arrived, REJECTED, words_of};
 use crate::pulse::Pulse;
 use memchr::memrchr;
 use mio::{Interest, Registry, Token};
 use resp_io::device::Device;
 use resp_net::backend::{Attempt, Backend};
-use resp_net::non_blocking::{Input, Output, is_open};
+use resp_net::non_blocking::{Input, Output};
 use resp_net::register::register;
 use resp_net::service::{FURTHER, shorter, token_of};
 use resp_net::spare::Spare;
 use resp_net::stream::Stream;
-use resp_proxy::{Proxy, ServerError, ServerLine, Setting, WriteOutcome};
+use resp_proxy::{
+    AttachError, Ending, Opening, Proxy, ServerError, ServerLine, Setting, WriteOutcome,
+};
 use resp_schedule::{Attempts, Phase};
 use std::alloc::{AllocError, Global};
 use std::fs::Files;
@@ -35,14 +36,11 @@ const LOOKED_UP: u64 = 10;
 /// connections continues.
 const ASKING: usize = FURTHER + 1;
 
-/// Why no connection was opened, if the server rejected AUTH.
-pub(crate) const REJECTED: &str = "the server rejected AUTH";
-
 /// Why no connection was opened, if the server rejected a command of another setting.
-pub(crate) const REFUSED: &str = "the server rejected AUTH, HELLO or SELECT";
+const REFUSED: &str = "the server rejected AUTH, HELLO or SELECT";
 
-/// Why no connection was opened, if the server closed it during the login.
-pub(crate) const CLOSED: &str = "closed during AUTH";
+/// The command over the second connection to a silent server.
+const PING: &[u8] = b"*1\r\n$4\r\nPING\r\n";
 
 /// Why the connection to the server was lost.
 #[derive(Clone, Copy, Debug, PartialEq, Eq, Error)]
@@ -76,25 +74,10 @@ impl Loss {
 enum LinkState {
     /// There is no connection.
     Down,
-    /// A connection is pending.
-    Opening(Stream),
-    /// The proxy logs in over the connection.
-    Greeting(Stream, Entry),
-    /// The connection is open.
+    /// A connection is pending, or is brought into the setting of the line.
+    Opening(Arrival),
+    /// The connection is open, and continues the line.
     Open(OpenConnection),
-}
-
-/// The progress of a connection that is not open yet.
-#[derive(Clone, Copy)]
-enum LinkStage {
-    /// There is none.
-    Closed,
-    /// The server has not accepted it.
-    Waits,
-    /// The server has accepted it.
-    Connected,
-    /// The proxy logs in.
-    LogsIn,
 }
 
 /// An open connection to the server.
@@ -116,12 +99,8 @@ pub(crate) struct ServerLink {
     attempt: Attempt,
     /// The number of the socket.
     number: usize,
-    /// The setting of the connection.
-    setting: Setting,
     /// The command AUTH of the proxy's own user, or empty.
     login: Vec<u8>,
-    /// The reply of the server to HELLO, or empty.
-    hello: Vec<u8>,
     /// The last error that the server sent although no command waited for a reply, or empty.
     unasked: Vec<u8>,
     spare: Spare,
@@ -143,7 +122,6 @@ impl ServerLink {
         alloc: Global,
         backend: Backend,
         number: usize,
-        setting: Setting,
         login: Vec<u8>,
         patience: Duration,
         spare: Spare,
@@ -154,9 +132,7 @@ impl ServerLink {
             backend,
             attempt,
             number,
-            setting,
             login,
-            hello: Vec::new(alloc),
             unasked: Vec::new(alloc),
             spare,
             state: LinkState::Down,
@@ -167,46 +143,52 @@ impl ServerLink {
         }
     }
 
-    /// Returns the setting of the connection.
-    pub(crate) fn setting(&self) -> &Setting {
-        &self.setting
-    }
-
-    /// Sets the setting with which the next connection is opened. It differs at most in its
-    /// password.
-    pub(crate) fn set_setting(&mut self, setting: Setting) {
-        drop(mem::replace(&mut self.setting, setting));
-    }
-
-    /// Returns the reply of the server to HELLO, or an empty text.
-    pub(crate) fn hello(&self) -> &[u8] {
-        &self.hello
-    }
-
     /// Returns whether the connection is open.
     pub(crate) fn is_open(&self) -> bool {
         self.attempts.is_open()
     }
 
-    /// Uses a connection that is already open in this setting, if the link has none. `hello` is the
-    /// reply to HELLO over it.
+    /// Uses a connection that has arrived in the setting of the line, if the link has none.
     ///
     /// # Errors
     ///
-    /// The error of the system. The connection is closed.
+    /// The error of the system, or an error of kind `OutOfMemory` if a command that was sent over a
+    /// lost connection waits for its reply. The connection is closed.
     pub(crate) fn adopt(
         &mut self,
-        stream: Stream,
-        hello: Vec<u8>,
+        proxy: &Proxy,
+        line: &mut ServerLine,
+        arrival: Arrival,
         registry: &Registry,
     ) -> io::Result<()> {
-        let mut stream = stream;
+        let (mut stream, opening) = arrival.into_parts();
         let interests = Interest::READABLE | Interest::WRITABLE;
-        registry.reregister(&mut stream, token_of(self.number), interests)?;
-        self.hello = hello;
-        self.attempts.open();
-        self.set_state(LinkState::Open(OpenConnection::new(stream)));
-        Ok(())
+        if let Err(error) = registry.reregister(&mut stream, token_of(self.number), interests) {
+            drop(opening);
+            return Err(error);
+        }
+        self.attach(proxy, line, stream, opening)
+    }
+
+    /// Lets a connection that is in the setting of the line continue the line.
+    fn attach(
+        &mut self,
+        proxy: &Proxy,
+        line: &mut ServerLine,
+        stream: Stream,
+        opening: Opening,
+    ) -> io::Result<()> {
+        match proxy.attach(line, opening) {
+            Ok(()) => {
+                self.attempts.open();
+                self.set_state(LinkState::Open(OpenConnection::new(stream)));
+                Ok(())
+            }
+            Err(error) => {
+                drop(stream);
+                Err(kind_of(error).into())
+            }
+        }
     }
 
     /// Sets the state, and drops the previous one.
@@ -219,19 +201,17 @@ impl ServerLink {
         mem::replace(&mut self.state, LinkState::Down)
     }
 
-    /// Closes the connection. No other is opened before [`ServerLink::connect`].
-    pub(crate) fn close(&mut self) {
-        self.attempts.stop();
-        self.set_state(LinkState::Down);
-    }
-
-    /// Returns the entry of a new connection into the setting.
+    /// Returns the opening of a new connection in this setting.
     ///
     /// # Errors
     ///
     /// `AllocError` if an allocation fails.
-    pub(crate) fn entry(&self) -> Result<Entry, AllocError> {
-        Entry::new(self.alloc, &self.setting, &self.login)
+    pub(crate) fn opening(
+        &self,
+        setting: &Setting,
+        ending: Ending<'_>,
+    ) -> Result<Opening, AllocError> {
+        Opening::new(self.alloc, setting, &self.login, ending)
     }
 
     /// Returns the server.
@@ -295,11 +275,17 @@ impl ServerLink {
 
     /// Asks a silent server over a second connection whether it is busy, or continues to ask.
     /// Returns the words of the server if it is busy.
-    pub(crate) fn ask(&mut self, net: &impl Net, registry: &Registry, waits: bool) -> Option<&str> {
+    pub(crate) fn ask(
+        &mut self,
+        net: &impl Net,
+        registry: &Registry,
+        setting: &Setting,
+        waits: bool,
+    ) -> Option<&str> {
         match self.silent_since(waits) {
             Some(since) => {
                 if self.time_to_ask(waits) == Some(Duration::from_millis(0)) {
-                    let arrival = self.begin_to_ask(net, registry).ok();
+                    let arrival = self.begin_to_ask(net, registry, setting).ok();
                     self.pulse.ask(since, arrival);
                 }
                 self.pulse.go_on();
@@ -310,16 +296,17 @@ impl ServerLink {
     }
 
     /// Starts a second connection to the server, for PING.
-    fn begin_to_ask(&self, net: &impl Net, registry: &Registry) -> io::Result<Box<Arrival>> {
-        let Ok(mut entry) = self.entry() else {
+    fn begin_to_ask(
+        &self,
+        net: &impl Net,
+        registry: &Registry,
+        setting: &Setting,
+    ) -> io::Result<Box<Arrival>> {
+        let Ok(opening) = self.opening(setting, Ending::Command(PING)) else {
             return Err(ErrorKind::OutOfMemory.into());
         };
-        if entry.ask(PING).is_err() {
-            drop(entry);
-            return Err(ErrorKind::OutOfMemory.into());
-        }
         let token = token_of(self.number.saturating_add(ASKING));
-        let arrival = Arrival::begin(net, &self.backend, registry, token, entry)?;
+        let arrival = Arrival::begin(net, &self.backend, registry, token, opening)?;
         match Box::new(self.alloc, arrival) {
             Ok(arrival) => Ok(arrival),
             Err(failed) => {
@@ -343,23 +330,40 @@ impl ServerLink {
         }
     }
 
-    /// Starts to connect to the server, if there is no connection and the pause is over.
+    /// Starts to connect to the server, to bring the connection into this setting, if there is no
+    /// connection and the pause is over.
     ///
     /// # Errors
     ///
-    /// The error of the system. The next attempt is made after a pause.
+    /// The error of the system, or an error of kind `OutOfMemory`. The next attempt is made after a
+    /// pause.
     pub(crate) fn connect<R: Net + Files>(
         &mut self,
         net: &R,
         registry: &Registry,
+        setting: &Setting,
     ) -> io::Result<()> {
         if !self.attempts.may_begin() {
             return Ok(());
         }
-        if let Err(error) = self.look_up(net) {
+        let begun = self.begin(net, registry, setting);
+        if begun.is_err() {
             self.pause();
-            return Err(error);
         }
+        begun
+    }
+
+    /// Starts to connect to the server.
+    fn begin<R: Net + Files>(
+        &mut self,
+        net: &R,
+        registry: &Registry,
+        setting: &Setting,
+    ) -> io::Result<()> {
+        self.look_up(net)?;
+        let Ok(opening) = self.opening(setting, Ending::Setting) else {
+            return Err(ErrorKind::OutOfMemory.into());
+        };
         let token = token_of(self.number);
         match open(
             &mut self.spare,
@@ -372,11 +376,11 @@ impl ServerLink {
             Ok((stream, attempt)) => {
                 self.attempt = attempt;
                 self.attempts.begin();
-                self.set_state(LinkState::Opening(stream));
+                self.set_state(LinkState::Opening(Arrival::new(stream, opening)));
                 Ok(())
             }
             Err(error) => {
-                self.pause();
+                drop(opening);
                 Err(error)
             }
         }
@@ -399,35 +403,52 @@ impl ServerLink {
         Ok(())
     }
 
-    /// Continues to open the pending connection, and to log in over it. Returns whether this call
-    /// has opened it.
+    /// Continues to open the pending connection, and to bring it into the setting of the line.
+    /// Returns whether this call has opened it.
     ///
     /// # Errors
     ///
     /// The error of the system, an error of kind `TimedOut`, or an error of kind `PermissionDenied`
     /// if the server rejected the login. The next attempt is made after a pause.
-    pub(crate) fn finish_connecting(&mut self) -> io::Result<bool> {
-        let stage = self.stage();
-        match stage {
-            Ok(LinkStage::Closed | LinkStage::Waits) => Ok(false),
-            Ok(LinkStage::Connected) => {
-                self.greet()?;
-                self.finish_login()
+    pub(crate) fn finish_connecting(
+        &mut self,
+        proxy: &Proxy,
+        line: &mut ServerLine,
+    ) -> io::Result<bool> {
+        let LinkState::Opening(arrival) = &mut self.state else {
+            return Ok(false);
+        };
+        match arrival.go_on() {
+            Ok(Arrived::No) if self.attempts.is_late() => self.try_next(ErrorKind::TimedOut.into()),
+            Ok(Arrived::No) => Ok(false),
+            Ok(Arrived::Yes) => self.finish_login(proxy, line),
+            Ok(Arrived::Rejected) => {
+                let why = if self.number == 0 { REJECTED } else { REFUSED };
+                let error = arrival.rejection(why);
+                self.pause();
+                Err(error)
             }
-            Ok(LinkStage::LogsIn) => self.finish_login(),
+            Err(error) if arrival.is_open() => {
+                self.pause();
+                Err(error)
+            }
             Err(error) => self.try_next(error),
         }
     }
 
-    /// Tries the next address of the server at once, if this was not the last one.
+    /// Tries the next address of the server at once, if the server did not accept the connection and
+    /// this was not the last address.
     ///
     /// # Errors
     ///
     /// The error that the attempt failed with. The next attempt is made after a pause.
     fn try_next(&mut self, error: io::Error) -> io::Result<bool> {
-        let was_opening = matches!(self.state, LinkState::Opening(_));
+        let was_open = match &self.state {
+            LinkState::Opening(arrival) => arrival.is_open(),
+            _ => true,
+        };
         match self.backend.after(self.attempt) {
-            Some(next) if was_opening => {
+            Some(next) if !was_open => {
                 self.attempt = next;
                 self.attempts.begin_again();
                 self.set_state(LinkState::Down);
@@ -441,96 +462,18 @@ impl ServerLink {
         }
     }
 
-    /// Returns the progress of the connection.
-    fn stage(&self) -> io::Result<LinkStage> {
-        match &self.state {
-            LinkState::Opening(stream) => {
-                if is_open(stream)? {
-                    return Ok(LinkStage::Connected);
-                }
-                self.in_time()?;
-                Ok(LinkStage::Waits)
-            }
-            LinkState::Greeting(..) => {
-                self.in_time()?;
-                Ok(LinkStage::LogsIn)
-            }
-            _ => Ok(LinkStage::Closed),
-        }
-    }
-
-    /// Fails if a pending connection is not open in time.
-    fn in_time(&self) -> io::Result<()> {
-        if self.attempts.is_late() {
-            return Err(ErrorKind::TimedOut.into());
-        }
-        Ok(())
-    }
-
-    /// Continues to log in. Returns whether this call has opened the connection.
-    fn finish_login(&mut self) -> io::Result<bool> {
-        let LinkState::Greeting(stream, entry) = &mut self.state else {
+    /// Lets the connection that has arrived continue the line. Returns true.
+    fn finish_login(&mut self, proxy: &Proxy, line: &mut ServerLine) -> io::Result<bool> {
+        let LinkState::Opening(arrival) = self.take_state() else {
             return Ok(false);
         };
-        match entry.go_on(stream) {
-            EntryProgress::Waits => Ok(false),
-            EntryProgress::Accepted => {
-                self.start();
-                Ok(true)
-            }
-            EntryProgress::Rejected => {
-                let why = if self.number == 0 { REJECTED } else { REFUSED };
-                let error = entry.rejection(why);
-                self.pause();
-                Err(error)
-            }
-            EntryProgress::Failed => {
-                self.pause();
-                Err(io::Error::new(ErrorKind::ConnectionAborted, CLOSED))
-            }
-        }
-    }
-
-    /// Starts to log in over the pending connection.
-    ///
-    /// # Errors
-    ///
-    /// An error of kind `OutOfMemory` if an allocation fails. The next attempt is made after a
-    /// pause.
-    fn greet(&mut self) -> io::Result<()> {
-        let Ok(entry) = self.entry() else {
+        self.backend.prefer(self.attempt);
+        let (stream, opening) = arrival.into_parts();
+        if let Err(error) = self.attach(proxy, line, stream, opening) {
             self.pause();
-            return Err(ErrorKind::OutOfMemory.into());
-        };
-        match self.take_state() {
-            LinkState::Opening(stream) => self.set_state(LinkState::Greeting(stream, entry)),
-            state => {
-                drop(state);
-                drop(entry);
-            }
+            return Err(error);
         }
-        Ok(())
-    }
-
-    /// Makes the pending connection an open one.
-    fn start(&mut self) {
-        match self.take_state() {
-            LinkState::Greeting(stream, entry) => {
-                self.backend.prefer(self.attempt);
-                self.keep_hello(&entry);
-                drop(entry);
-                self.attempts.open();
-                self.set_state(LinkState::Open(OpenConnection::new(stream)));
-            }
-            state => drop(state),
-        }
-    }
-
-    /// Keeps the reply to HELLO, if there is memory for it.
-    fn keep_hello(&mut self, entry: &Entry) {
-        if let Ok(hello) = entry.hello().to_vec(self.alloc) {
-            self.hello = hello;
-        }
+        Ok(true)
     }
 
     /// Closes the connection. The next attempt is made after a pause, or at once if a reply came
@@ -697,6 +640,14 @@ fn exchange(
         (Ok(()), Some(0)) => Err(Loss::Closed),
         (Ok(()), None) if !is_dry => Err(Loss::Read),
         _ => Ok(!is_dry),
+    }
+}
+
+/// Returns the kind of the error for a connection that does not continue a line.
+fn kind_of(error: AttachError) -> ErrorKind {
+    match error {
+        AttachError::Waits => ErrorKind::OutOfMemory,
+        AttachError::NotAccepted | AttachError::OtherSetting => ErrorKind::NotConnected,
     }
 }
 

@@ -3,7 +3,7 @@ use Rattle.resp_board.specs.Runs.{WhereRun}
 use Rattle.resp_proxy.specs.Probing.{KeepsStep}
 use Rattle.resp_proxy.specs.Visiting.{SendsSome}
 use Rattle.resp_proxy.specs.Proxies.{board_in}
-use Rattle.resp_proxy.specs.ServerLines.{WhereBegunBy, expected_of, line_of, prober_of}
+use Rattle.resp_proxy.specs.ServerLines.{LineTerms, WhereBegunBy, expected_of, line_of, prober_of}
 use Rattle.resp_proxy.proofs.Probings.{if-some, step-sent}
 use Rattle.resp_proxy.proofs.Readings.{none-sent}
 use Rattle.resp_proxy.proofs.proxy.Proxy.visit_server.Goals as goal
@@ -21,7 +21,7 @@ returns-then-is_ok-clause-visited g c front h =
       between = board_in read.new.self;
       reads = read.ensures.reads front h;
       sends =
-          subst (λ line. SendsSome line (g.W.Sink.written c.args.writer.now) (g.W.Sink.written c.send-written.new.writer) (board_in read.new.self) (board_in c.send-written.new.self))
+          subst (λ (terms : LineTerms). SendsSome terms.id.place (g.W.Sink.written c.args.writer.now) (g.W.Sink.written c.send-written.new.writer) (board_in read.new.self) (board_in c.send-written.new.self))
           read.ensures.same_line c.send-written.ensures.sends;
     }
 
