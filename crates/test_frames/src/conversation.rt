@@ -3,7 +3,7 @@
 use crate::cuts::Tally;
 use anyhow::Result;
 use resp_io::MemorySink;
-use resp_proxy::{Client, Proxy, Setting, Settings};
+use resp_proxy::{Client, Ending, Opening, Proxy, Setting, Settings};
 use std::alloc::Global;
 
 const FIRST: &[u8] = b"*2\r\n$3\r\nGET\r\n$1\r\na\r\n*1\r\n$4\r\nPING\r\n";
@@ -34,6 +34,9 @@ fn given(alloc: Global, proxy: &mut Proxy, client: &Client) -> Result<Vec<u8>> {
 fn is_right(alloc: Global, cut: usize, server_cut: usize) -> Result<bool> {
     let mut proxy = Proxy::new(alloc, Settings::standard())?;
     let mut line = proxy.open_line(&Setting::first(alloc)?)?;
+    // The first setting needs no command.
+    let opening = Opening::new(alloc, line.setting(), b"", Ending::Setting)?;
+    proxy.attach(&mut line, opening)?;
     let (mut first, mut second) = (proxy.open(&line)?, proxy.open(&line)?);
     proxy.from_client(&mut first, &FIRST[..cut])?;
     proxy.from_client(&mut second, SECOND)?;

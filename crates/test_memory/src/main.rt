@@ -138,6 +138,7 @@ fn parts_of_connections(alloc: Global) -> [Part; 40] {
         ("proxy leaving", proxying::of_leaving(alloc)),
         ("proxy moving", proxying::of_moving(alloc)),
         ("setting", proxying::of_setting(alloc)),
+        ("opening", proxying::of_opening(alloc)),
         ("proxy server", proxying::of_server(alloc)),
         ("proxy probe", proxying::of_probe(alloc)),
         ("world", worlds::of_run(alloc)),

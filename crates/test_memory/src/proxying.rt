@@ -4,10 +4,12 @@
 use crate::outcome::Outcome;
 use resp_board::{OpenError, OwnError};
 use resp_frames::FrameError;
-use resp_io::MemorySink;
+use resp_io::{MemorySink, MemorySource};
 use resp_proxy::{
-    Client, ClientError, EnterError, Proxy, ServerError, ServerLine, Setting, Settings, next_wish,
+    Client, ClientError, Ending, EnterError, Opening, OpeningError, OpeningProgress, Proxy,
+    ServerError, ServerLine, Setting, Settings, next_wish,
 };
+use resp_value::version::Version;
 use std::alloc::{AllocError, Global};
 
 const PING: &[u8] = b"*1\r\n$4\r\nPING\r\n";
@@ -21,8 +23,13 @@ const SELECT: usize = 23;
 /// Returns a proxy with a line in the first setting.
 fn one_line(alloc: Global) -> Result<(Proxy, ServerLine), AllocError> {
     let mut proxy = Proxy::new(alloc, Settings::standard())?;
-    let line = proxy.open_line(&Setting::first(alloc)?)?;
-    Ok((proxy, line))
+    let mut line = proxy.open_line(&Setting::first(alloc)?)?;
+    // The first setting needs no command.
+    let opening = Opening::new(alloc, line.setting(), b"", Ending::Setting)?;
+    match proxy.attach(&mut line, opening) {
+        Ok(()) => Ok((proxy, line)),
+        Err(_) => Err(AllocError),
+    }
 }
 
 /// Returns a proxy with a line and two clients.
@@ -329,4 +336,35 @@ pub(crate) fn of_reply(alloc: Global) -> Outcome {
         }
     }
     Outcome::of(proxy.waiting(&line) == 0 && proxy.unread(&first) == 27)
+}
+
+/// A connection that is brought into version 3. After a failed allocation it is not used.
+pub(crate) fn of_opening(alloc: Global) -> Outcome {
+    let Ok(mut setting) = Setting::first(alloc) else {
+        return Outcome::OutOfMemory;
+    };
+    setting.version = Version::Three;
+    let Ok(mut opening) = Opening::new(alloc, &setting, b"", Ending::Setting) else {
+        return Outcome::OutOfMemory;
+    };
+    let Ok(mut sink) = MemorySink::new(alloc, 100, 100) else {
+        return Outcome::OutOfMemory;
+    };
+    // A cut reply, which is held.
+    let mut source = MemorySource::new(b"%1\r\n$5\r\nproto\r\n:3\r\n", 9);
+    for _ in 0..9 {
+        match opening.visit(&mut source, &mut sink, &mut [0; 64]) {
+            Ok(OpeningProgress::Accepted) => {
+                return Outcome::of(opening.hello().starts_with(b"%1") && sink.bytes().len() == 22);
+            }
+            Ok(_) => {}
+            Err(OpeningError::OutOfMemory) => {
+                let again = opening.visit(&mut source, &mut sink, &mut [0; 64]);
+                let is_same = again == Err(OpeningError::OutOfMemory);
+                return Outcome::refused(is_same && !opening.is_accepted());
+            }
+            Err(_) => return Outcome::Wrong,
+        }
+    }
+    Outcome::Wrong
 }

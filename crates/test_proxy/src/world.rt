@@ -3,7 +3,7 @@
 use crate::replay::{Fault, LENGTH, Replay, key_of};
 use anyhow::{Context, Result};
 use resp_io::{MemorySink, MemorySource};
-use resp_proxy::{Client, Proxy, ServerLine, Setting, Settings};
+use resp_proxy::{Client, Ending, Opening, Proxy, ServerLine, Setting, Settings};
 use std::alloc::Global;
 
 /// The bytes of a command around its key.
@@ -32,10 +32,18 @@ pub struct World {
     keys: Vec<[u8; 2]>,
 }
 
+/// Lets a new connection continue a line in the first setting, which needs no command.
+fn attach(alloc: Global, proxy: &Proxy, line: &mut ServerLine) -> Result<()> {
+    let opening = Opening::new(alloc, line.setting(), b"", Ending::Setting)?;
+    proxy.attach(line, opening)?;
+    Ok(())
+}
+
 impl World {
     pub fn new(alloc: Global) -> Result<Self> {
         let mut proxy = Proxy::new(alloc, Settings::standard())?;
-        let line = proxy.open_line(&Setting::first(alloc)?)?;
+        let mut line = proxy.open_line(&Setting::first(alloc)?)?;
+        attach(alloc, &proxy, &mut line)?;
         let mut clients = Vec::new(alloc);
         let mut got = Vec::new(alloc);
         for _ in 0..2 {
@@ -131,6 +139,7 @@ impl World {
             }
             Fault::Lose => {
                 self.proxy.lose(&mut self.line)?;
+                attach(self.alloc, &self.proxy, &mut self.line)?;
                 self.heard.clear();
                 self.replied = 0;
                 self.give()

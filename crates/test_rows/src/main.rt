@@ -1,5 +1,5 @@
 //! Reads conversations as rows from the files `scan`, `decode`, `client`, `server`, `databases`, `wire`,
-//! `tap` and `proxy`, runs each with its texts cut in every way, and prints where the lines printed are not the
+//! `tap`, `proxy` and `opening`, runs each with its texts cut in every way, and prints where the lines printed are not the
 //! expected lines.
 //!
 //! Conversations are separated by empty lines. The first line of a conversation is its title, `#
@@ -17,6 +17,7 @@ mod conversation;
 mod cut;
 mod databases;
 mod decode;
+mod opening;
 mod player;
 mod proxy;
 mod scan;
@@ -31,6 +32,7 @@ use anyhow::Result;
 use client::Talker;
 use databases::Hosting;
 use decode::Reader;
+use opening::Arriving;
 use player::play;
 use proxy::Proxying;
 use scan::Scanners;
@@ -46,5 +48,6 @@ fn main(rt: HostRuntime) -> Result<()> {
     play::<Hosting>(&rt, "databases")?;
     play::<Talk>(&rt, "wire")?;
     play::<Tapping>(&rt, "tap")?;
-    play::<Proxying>(&rt, "proxy")
+    play::<Proxying>(&rt, "proxy")?;
+    play::<Arriving>(&rt, "opening")
 }

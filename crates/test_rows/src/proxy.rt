@@ -5,7 +5,9 @@ use crate::subject::Subject;
 use crate::text::{bytes, number, split};
 use anyhow::{Context, Result, bail};
 use resp_io::{MemorySink, MemorySource};
-use resp_proxy::{Client, Proxy, Read, ServerError, ServerLine, Setting, Settings};
+use resp_proxy::{
+    Client, Ending, Opening, Proxy, Read, ServerError, ServerLine, Setting, Settings,
+};
 use resp_value::version::Version;
 use std::alloc::Global;
 use std::mem;
@@ -45,10 +47,23 @@ pub(crate) struct Proxying {
     is_out_of_step: bool,
 }
 
+/// Lets a new connection continue a line. The server replies to HELLO if the line is in version 3.
+fn attach(alloc: Global, proxy: &Proxy, line: &mut ServerLine) -> Result<()> {
+    let mut opening = Opening::new(alloc, line.setting(), b"", Ending::Setting)?;
+    if line.setting().version == Version::Three {
+        let mut source = MemorySource::new(b"%1\r\n$5\r\nproto\r\n:3\r\n", MOST);
+        let mut sink = MemorySink::new(alloc, MOST, MOST)?;
+        let _ = opening.visit(&mut source, &mut sink, &mut [0; 64])?;
+    }
+    proxy.attach(line, opening)?;
+    Ok(())
+}
+
 impl Subject for Proxying {
     fn new(alloc: Global) -> Result<Proxying> {
         let mut proxy = Proxy::new(alloc, Settings::standard())?;
-        let line = proxy.open_line(&Setting::first(alloc)?)?;
+        let mut line = proxy.open_line(&Setting::first(alloc)?)?;
+        attach(alloc, &proxy, &mut line)?;
         Ok(Proxying {
             alloc,
             proxy,
@@ -115,6 +130,7 @@ impl Proxying {
     fn begin(&mut self, settings: Settings) -> Result<()> {
         self.proxy = Proxy::new(self.alloc, settings)?;
         self.line = self.proxy.open_line(&Setting::first(self.alloc)?)?;
+        attach(self.alloc, &self.proxy, &mut self.line)?;
         self.seats.clear();
         self.leaving.clear();
         Ok(())
@@ -125,7 +141,7 @@ impl Proxying {
         let mut setting = Setting::first(self.alloc)?;
         setting.version = Version::Three;
         self.line = self.proxy.open_line(&setting)?;
-        Ok(())
+        attach(self.alloc, &self.proxy, &mut self.line)
     }
 
     /// `prober`: opens the proxy's own client that sends probes.
@@ -234,6 +250,7 @@ impl Proxying {
             self.proxy.lose(&mut self.line)?;
         }
         self.proxy.settle_probes(&mut self.line);
+        attach(self.alloc, &self.proxy, &mut self.line)?;
         self.is_out_of_step = false;
         self.takes = MOST;
         self.ask_told(said)
