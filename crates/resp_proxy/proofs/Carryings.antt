@@ -24,7 +24,6 @@ use Rattle.resp_scan.specs.Whole.{BeginsWith}
 use Rattle.resp_value.specs.Bounds.{Bounds}
 use Rattle.resp_value.specs.Laws.{NoSpellingBeginsAnother}
 use Rattle.resp_value.specs.Rules.{rules_under}
-use Rattle.resp_value.specs.Spellings.{IsSpelling}
 use Rattle.resp_value.specs.Words.{command_of}
 use Rattle.resp_value.specs.declared.version.Version.TheVariants.{Two}
 

@@ -1,9 +1,9 @@
 -- Rows of errors at their places.
-use Rattle.std.proofs.Common.{◌≡◌, ◌≢◌, ℕ, ◌<◌, Bool, true, List, [], ◌∷◌, ◌++◌, length, set, refl, ap, zero, suc, sym, subst, arith, length-set}
-use Rattle.std.specs.Prelude.{slice_get, Option, None, Some, IsSomeAnd}
+use Rattle.std.proofs.Common.{◌≡◌, ◌≢◌, ℕ, ◌<◌, true, List, [], ◌∷◌, ◌++◌, length, set, refl, ap, zero, suc, sym, subst, arith, length-set}
+use Rattle.std.specs.Prelude.{slice_get, Option, Some, IsSomeAnd}
 use Rattle.std.specs.Cmp.Lexicographic.{bytes_decides}
 use Rattle.std.specs.Str.{bytes_eq}
-use Rattle.resp_proxy.specs.ErrorRows.{AddsError, CountsError, has_word, row_has}
+use Rattle.resp_proxy.specs.ErrorRows.{AddsError, CountsError, has_word}
 use Rattle.resp_proxy.specs.declared.error_counts.ErrorRow.{ErrorRow}
 
 get-set_same : (rows : List ErrorRow) (i : ℕ) (row : ErrorRow) → i < length rows → slice_get (set rows i row) i ≡ Some row

@@ -1,11 +1,11 @@
 -- How bytes are written.
-use Rattle.std.proofs.Common.{◌≡◌, ◌∙◌, ℕ, Bool, true, false, cond, List, [], ◌++◌, length, take, drop, Option, None, Some, IfSome, ap, refl, subst, sym}
+use Rattle.std.proofs.Common.{◌≡◌, ℕ, List, [], ◌++◌, take, drop, Option, None, Some, IfSome, ap, refl, subst, sym}
 use Rattle.std.specs.Borrow.{Bor}
 use Rattle.std.specs.Option.{option_map}
 use Rattle.std.specs.Prelude.{MatchOption}
 use Rattle.std.proofs.lemmas.List.{append-nil, take-append-drop}
 use Rattle.resp_board.proofs.Standing.{given-nothing}
-use Rattle.resp_board.specs.Histories.{History, board_of, due_on, with_bytes, with_given}
+use Rattle.resp_board.specs.Histories.{board_of, due_on, with_bytes, with_given}
 use Rattle.resp_board.specs.Runs.{HasRun, WhereRun, unsent_on, waiting_for}
 use Rattle.resp_board.specs.declared.board.Board.{Board}
 use Rattle.resp_board.specs.declared.ticket.ClientId.{ClientId}

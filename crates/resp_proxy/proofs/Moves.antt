@@ -1,5 +1,5 @@
 -- Clients whose commands go to another line from now on.
-use Rattle.std.proofs.Common.{◌≡◌, ℕ, List, [], ◌∷◌, ◌++◌, refl, subst, sym}
+use Rattle.std.proofs.Common.{ℕ, List}
 use Rattle.resp_board.specs.Boards.{Own}
 use Rattle.resp_board.specs.Runs.{KeepsOpen, Runs}
 use Rattle.resp_board.specs.declared.board.Board.{Board}

@@ -1,5 +1,5 @@
 -- How the opening of a connection goes on.
-use Rattle.std.proofs.Common.{◌≡◌, ◌∙◌, ◌<◌, arith, ℕ, length, List, [], ◌++◌, Option, None, Some, Result, Ok, Err, refl, subst, sym}
+use Rattle.std.proofs.Common.{◌≡◌, ◌∙◌, ◌<◌, arith, ℕ, length, List, [], ◌++◌, Option, None, Some, Result, Ok, Err, subst, sym}
 use Rattle.std.specs.Prelude.{IfErr, IfSome}
 use Rattle.std.proofs.lemmas.List.{append-nil}
 use Rattle.resp_proxy.proofs.Readings.{not-read}

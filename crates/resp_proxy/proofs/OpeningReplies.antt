@@ -1,6 +1,6 @@
 -- How the replies of an opening are taken.
-use Rattle.std.proofs.Common.{◌≡◌, ◌∙◌, ◌⊎◌, inl, inr, ◌-◌, ℕ, zero, suc, ◌+◌, ◌<◌, ◌≤◌, true, false, List, [], ◌∷◌, ◌++◌, length, take, drop, ap, append_assoc, arith, refl, subst, sym}
-use Rattle.std.specs.Prelude.{if◌then◌else◌, ◌==◌, ◌≢◌, IfSome, Option, Some}
+use Rattle.std.proofs.Common.{◌≡◌, ◌∙◌, ◌⊎◌, inl, inr, ◌-◌, ℕ, suc, ◌+◌, ◌<◌, ◌≤◌, true, false, List, [], ◌∷◌, ◌++◌, length, take, drop, ap, append_assoc, arith, refl, subst, sym}
+use Rattle.std.specs.Prelude.{if◌then◌else◌, ◌==◌, IfSome, Option, Some}
 use Rattle.std.specs.List.{AllByRecursion, concat}
 use Rattle.std.proofs.Math.Seq.{take-add}
 use Rattle.std.proofs.lemmas.List.{append-nil, length-append, length-drop, take-append-drop}
@@ -18,7 +18,7 @@ use Rattle.resp_proxy.specs.declared.opening_replies.Expected.TheVariants.{Setti
 use Rattle.resp_proxy.specs.declared.opening_replies.OpeningError.{OpeningError}
 use Rattle.resp_proxy.specs.declared.opening_replies.OpeningError.TheVariants as error
 use Rattle.resp_proxy.specs.declared.opening_replies.OpeningReplies.{OpeningReplies}
-use Rattle.resp_proxy.specs.OpeningReplies.{AcceptsReply, AreAccepted, BeginsAccepting, HasReplies, IsOneOf, OpeningTerms, RejectsReply, RejectsSome, Refuses, RefusesOpening, TakesSome, WhereReplies, accepts, expected_at, expected_next, opening_error, opening_terms}
+use Rattle.resp_proxy.specs.OpeningReplies.{AreAccepted, BeginsAccepting, HasReplies, IsOneOf, OpeningTerms, RejectsReply, Refuses, RefusesOpening, TakesSome, WhereReplies, accepts, expected_at, expected_next, opening_error, opening_terms}
 use Rattle.resp_scan.specs.declared.event.Fault.{Fault}
 use Rattle.resp_scan.specs.Reading.{IsSpelled}
 use Rattle.resp_value.specs.Rules.{Rules}

@@ -1,5 +1,5 @@
 -- The commands that a connection to the server begins with.
-use Rattle.std.proofs.Common.{◌≡◌, ℕ, List, ◌++◌, codes, length, ◌<◌, ◌^◌, ap, sym, refl, ◌∙◌, append_assoc, append-nil, [], ◌∷◌, false}
+use Rattle.std.proofs.Common.{◌≡◌, ℕ, List, ◌++◌, codes, length, ◌<◌, ◌^◌, ap, sym, refl, ◌∙◌, append_assoc, append-nil, [], false}
 use Rattle.std.specs.Fmt as fmt
 use Rattle.resp_value.proofs.StdDigits.{decimal-std}
 use Rattle.std.specs.Str.{bytes_eq}

@@ -1,5 +1,5 @@
 -- What a visit of a client leaves to the other clients.
-use Rattle.std.proofs.Common.{◌≡◌, ◌∙◌, ℕ, false, cond, List, [], ◌∷◌, ◌++◌, Option, None, Some, ap, refl, subst, sym}
+use Rattle.std.proofs.Common.{◌≡◌, ◌∙◌, ℕ, false, cond, List, [], ◌∷◌, ◌++◌, Option, None, Some, ap, refl, subst}
 use Rattle.resp_board.specs.declared.board.Board.{Board}
 use Rattle.resp_board.specs.declared.ticket.ClientId.{ClientId}
 use Rattle.resp_board.specs.Boards.{Own, is_same}

@@ -1,5 +1,5 @@
 -- The replies to probes.
-use Rattle.std.proofs.Common.{◌≡◌, ◌∙◌, ◌⊎◌, inl, inr, ℕ, ◌==◌, true, false, List, [], ◌∷◌, ◌++◌, take, Option, None, Some, Result, Ok, Err, IfNone, IfSome, is_ok, ap, length, subst, sym}
+use Rattle.std.proofs.Common.{◌≡◌, ◌∙◌, ◌⊎◌, inl, inr, ℕ, ◌==◌, true, false, List, ◌++◌, take, Option, None, Some, Result, Ok, Err, IfSome, is_ok, ap, length, subst, sym}
 use Rattle.std.proofs.Math.Seq.{take-length}
 use Rattle.std.proofs.lemmas.List.{take_at}
 use Rattle.std.specs.Prelude.{OnOk, is_err}

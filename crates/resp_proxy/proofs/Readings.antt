@@ -1,5 +1,5 @@
 -- How bytes are read.
-use Rattle.std.proofs.Common.{◌≡◌, ◌∙◌, ℕ, true, List, [], ◌++◌, length, take, drop, Option, None, Some, Result, Ok, Err, inl, ap, arith, refl, subst, sym}
+use Rattle.std.proofs.Common.{◌≡◌, ◌∙◌, ℕ, true, List, [], ◌++◌, take, drop, Option, None, Some, Result, Ok, Err, inl, ap, refl, subst, sym}
 use Rattle.std.specs.Prelude.{IfErr, OnOk}
 use Rattle.std.proofs.lemmas.List.{append-nil, take-append-drop}
 use Rattle.resp_frames.specs.declared.begun.Begun.{Begun}

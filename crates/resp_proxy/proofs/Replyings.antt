@@ -9,7 +9,7 @@ use Rattle.resp_frames.specs.declared.frames.Frames.{Frames}
 use Rattle.resp_frames.specs.Framing.{HasBegun, IsReady, WhereBegun, frame_rules}
 use Rattle.resp_board.specs.Boards.{Reply}
 use Rattle.resp_board.specs.Histories.{History, with_event}
-use Rattle.resp_board.specs.Runs.{HasRun, KeepsAllBut, KeepsBytes, KeepsOpen, KeepsRun, WhereRun, clients_on}
+use Rattle.resp_board.specs.Runs.{HasRun, KeepsOpen, KeepsRun, WhereRun}
 use Rattle.resp_board.specs.declared.board.Board.{Board}
 use Rattle.resp_board.specs.declared.ticket.ClientId.{ClientId}
 use Rattle.resp_proxy.specs.declared.error.ServerError.{ServerError}
@@ -17,7 +17,7 @@ use Rattle.resp_proxy.specs.declared.error.ServerError.TheVariants as error
 use Rattle.resp_proxy.specs.declared.replies.Replied.{Replied}
 use Rattle.resp_proxy.specs.Rejecting.{RefusesReply, RejectsReply}
 use Rattle.resp_proxy.specs.Replying.{HasReplied, TakesReplies, with_each_reply}
-use Rattle.resp_proxy.specs.Telling.{IsFor, Notes, Tells}
+use Rattle.resp_proxy.specs.Telling.{IsFor, Notes}
 use Rattle.resp_proxy.proofs.Takings.{kept-clients, rest-of, whole-rest}
 use Rattle.resp_proxy.proofs.Tellings.{answers-one, tells-one}
 use Rattle.resp_scan.specs.Reading.{HasNoValue, IsSpelled}

@@ -1,9 +1,8 @@
 -- Which clients were replied to.
-use Rattle.std.proofs.Common.{◌≡◌, ◌∙◌, ℕ, zero, suc, ◌+◌, ◌-◌, ◌≤◌, true, List, [], ◌∷◌, ◌++◌, length, take, Option, Some, ap, append_assoc, arith, refl, subst, sym, slice_get}
+use Rattle.std.proofs.Common.{◌≡◌, ◌∙◌, ℕ, zero, suc, ◌+◌, ◌-◌, true, List, [], ◌∷◌, ◌++◌, length, take, Option, Some, ap, append_assoc, arith, refl, subst, sym, slice_get}
 use Rattle.std.specs.List.{AllByRecursion}
 use Rattle.std.specs.Prelude.{unwrap_or}
 use Rattle.std.proofs.Math.Seq.{take-append-add}
-use Rattle.std.proofs.lemmas.List.{append-nil}
 use Rattle.resp_board.proofs.Among.{among_at, among_there, is_other, none_both, none_of, not_among}
 use Rattle.resp_board.specs.Runs.{HasAnswered, clients_on, is_among}
 use Rattle.resp_board.specs.declared.board.Board.{Board}

@@ -1,5 +1,5 @@
 -- When a connection to the server continues a line.
-use Rattle.std.specs.Prelude.{◌≡◌, ◌≢◌, ◌<◌}
+use Rattle.std.specs.Prelude.{◌≡◌, ◌<◌}
 use Rattle.resp_board.specs.Runs.{begun_on}
 use Rattle.resp_board.specs.declared.board.Board.{Board}
 use Rattle.resp_proxy.specs.declared.error.AttachError.{AttachError}

@@ -1,5 +1,5 @@
 -- Replies to HELLO.
-use Rattle.std.specs.Prelude.{◌≡◌, ◌≢◌, ◌⊎◌, ◌<◌, ℕ, ℤ, pos, List, [], ◌∷◌, ◌++◌, IfSome, codes, length, slice_get, slice_index}
+use Rattle.std.specs.Prelude.{◌≡◌, ◌≢◌, ◌⊎◌, ◌<◌, ℕ, pos, List, [], ◌∷◌, ◌++◌, IfSome, codes, length, slice_get, slice_index}
 use Rattle.resp_value.specs.Data.{Datum, scalar, aggregate, data_of_list}
 use Rattle.resp_value.specs.Data as d
 use Rattle.resp_value.specs.Numbers.{decimal}

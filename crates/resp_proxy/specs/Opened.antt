@@ -1,14 +1,13 @@
 -- A connection that the proxy brings into a setting.
-use Rattle.std.specs.Prelude.{◌≡◌, ℕ, ◌+◌, ◌<◌, List, [], ◌++◌, Option, None, Some, IfSome, Result, Ok, Err, IfErr, OnOk, codes}
+use Rattle.std.specs.Prelude.{◌≡◌, ℕ, ◌+◌, ◌<◌, List, [], ◌++◌, Option, None, IfSome, Result, IfErr, OnOk, codes}
 use Rattle.resp_proxy.specs.declared.opening.Ending.{Ending}
 use Rattle.resp_proxy.specs.declared.opening.Ending.TheVariants as ending
 use Rattle.resp_proxy.specs.declared.opening.OpeningProgress.{OpeningProgress}
-use Rattle.resp_proxy.specs.declared.opening.OpeningProgress.TheVariants as progress
 use Rattle.resp_proxy.specs.declared.opening_replies.OpeningError.{OpeningError}
 use Rattle.resp_proxy.specs.declared.opening_replies.OpeningError.TheVariants as error
 use Rattle.resp_proxy.specs.declared.opening_replies.OpeningReplies.{OpeningReplies}
 use Rattle.resp_proxy.specs.OpeningReplies.{HasReplies, RefusesOpening, opening_terms}
-use Rattle.resp_proxy.specs.Visiting.{BeginWith, HaveCome}
+use Rattle.resp_proxy.specs.Visiting.{HaveCome}
 use Rattle.resp_proxy.specs.Wishes.{Situation}
 use Rattle.resp_io.specs.Devices.{Appends}
 

@@ -1,5 +1,5 @@
 -- The state of a proxy.
-use Rattle.std.specs.Prelude.{◌≡◌, ℕ, Bool, List, Option, None, codes}
+use Rattle.std.specs.Prelude.{◌≡◌, ℕ, Bool, List, None, codes}
 use Rattle.resp_board.specs.Runs.{waiting_for}
 use Rattle.resp_board.specs.declared.board.Board.{Board}
 use Rattle.resp_board.specs.declared.ticket.ClientId.{ClientId}

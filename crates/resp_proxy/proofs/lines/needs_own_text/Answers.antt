@@ -1,4 +1,4 @@
-use Rattle.std.proofs.Common.{[], subst, sym}
+use Rattle.std.proofs.Common.{[], subst}
 use Rattle.resp_frames.specs.Commands.{IsFrameOfWords}
 use Rattle.resp_proxy.proofs.Takings.{text-for-own}
 use Rattle.resp_proxy.proofs.lines.needs_own_text.Goals as goal

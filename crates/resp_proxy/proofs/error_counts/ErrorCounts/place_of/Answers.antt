@@ -1,4 +1,4 @@
-use Rattle.std.proofs.Common.{rules, ◌≡◌, ◌++◌, ◌∷◌, [], List, length, ℕ, ap, ◌∙◌, sym, subst, true}
+use Rattle.std.proofs.Common.{rules, ◌≡◌, ◌++◌, ◌∷◌, [], List, length, ℕ, sym, subst, true}
 use Rattle.resp_proxy.specs.ErrorRows.{has_word}
 use Rattle.resp_proxy.specs.declared.error_counts.ErrorRow.{ErrorRow}
 use Rattle.resp_proxy.proofs.ErrorLemmas.{added_has}

@@ -1,6 +1,6 @@
 use Rattle.std.proofs.Common.{◌≡◌, ◌<◌, ◌++◌, arith, drop, length, subst, take}
 use Rattle.resp_proxy.proofs.OpeningReplies.{refused-rest, rest-refused, some-left, takes-one}
-use Rattle.resp_proxy.proofs.Takings.{rest-of, whole-rest}
+use Rattle.resp_proxy.proofs.Takings.{whole-rest}
 use Rattle.resp_proxy.specs.declared.opening_replies.OpeningError.TheVariants as error
 use Rattle.resp_proxy.specs.OpeningReplies.{RefusesOpening, opening_terms}
 use Rattle.resp_proxy.proofs.opening_replies.OpeningReplies.take.Goals as goal

@@ -1,9 +1,9 @@
-use Rattle.std.proofs.Common.{◌≡◌, ◌∙◌, IfSome, ap, subst, sym}
+use Rattle.std.proofs.Common.{◌∙◌, IfSome, ap, subst, sym}
 use Rattle.resp_board.specs.Boards.{Ask}
 use Rattle.resp_board.specs.Runs.{Runs}
 use Rattle.resp_proxy.specs.Probing.{echo_text, echoed_text}
 use Rattle.resp_proxy.specs.Proxies.{board_in}
-use Rattle.resp_proxy.specs.ServerLines.{Lined, expected_of, line_of, prober_of}
+use Rattle.resp_proxy.specs.ServerLines.{Lined, line_of, prober_of}
 use Rattle.resp_proxy.proofs.Probings.{cut-again}
 use Rattle.resp_proxy.proofs.proxy.Proxy.probe.Goals as goal
 
