@@ -51,8 +51,10 @@ class Results:
         for case in self.cases:
             word, feed, got = self.worst.get(case["id"], ("outside", "", {}))
             if word not in ("right", "outside") and not case["id"].startswith(tuple(known)):
+                said = {key: got[key] for key in ("values", "end", "at") if key in got}
                 found.append(f"{case['id']} ({feed}): {suite.VERDICTS[word]}: {case['bytes'][:100]}\n"
-                             f"    must {case['must']} {json.dumps(case['values'])[:200]}\n    got {json.dumps(got)[:300]}")
+                             f"    must {case['must']} {json.dumps(case['values'])[:200]}\n    got {json.dumps(said)[:300]}\n"
+                             f"    {case['section']}: {case['rule']}")
         return found + list(self.places.values())
 
     def counts(self):

@@ -72,6 +72,13 @@ static const struct row ROWS[] = {
     {3, "*1\r\n>", "*1!4@4", 0},
     {3, ",1.5\r\n", "!2@0", no_doubles},
     {3, ",1.5\r\n,-inf\r\n", ",\"1.5\".,\"-inf\".", 0},
+    {3, ",-1.5E+07\r\n,nan\r\n", ",\"-1.5E+07\".,\"nan\".", 0},
+    {3, ",abc\r\n", ",\"!1@1", 0},
+    {3, ",.5\r\n", ",\"!1@1", 0},
+    {3, ",\r\n", ",\"!1@1", 0},
+    {3, ",1.\r\n", ",\"1.!1@3", 0},
+    {3, ",0x1p3\r\n", ",\"0!1@2", 0},
+    {3, ",nan(1)\r\n", ",\"nan!1@4", 0},
     {2, ",1.5\r\n", "!3@0", 0},
     {3, "*?", "!12@1", unstreamed},
     /* After the fifth `*` a null is still possible. */
@@ -321,6 +328,8 @@ WRITES(write_big_zero, resp_write_big(room, length, false, BYTES("0"), size))
 WRITES(write_lf, resp_write_simple(room, length, BYTES("a\n"), size))
 WRITES(write_cr, resp_write_error(room, length, BYTES("\ra"), size))
 WRITES(write_double_lf, resp_write_double(room, length, BYTES("\n"), size))
+WRITES(write_word_as_double, resp_write_double(room, length, BYTES("abc"), size))
+WRITES(write_double_without_digits, resp_write_double(room, length, BYTES("1."), size))
 WRITES(write_no_digits, resp_write_big(room, length, false, BYTES(""), size))
 WRITES(write_no_digit, resp_write_big(room, length, false, BYTES("1a"), size))
 WRITES(write_leading_zero, resp_write_big(room, length, false, BYTES("01"), size))
@@ -376,6 +385,8 @@ static const struct written WRITTEN[] = {
     {write_lf, "", RESP_CAUSE_BAD_LINE},
     {write_cr, "", RESP_CAUSE_BAD_LINE},
     {write_double_lf, "", RESP_CAUSE_BAD_DIGITS},
+    {write_word_as_double, "", RESP_CAUSE_BAD_DIGITS},
+    {write_double_without_digits, "", RESP_CAUSE_BAD_DIGITS},
     {write_no_digits, "", RESP_CAUSE_BAD_DIGITS},
     {write_no_digit, "", RESP_CAUSE_BAD_DIGITS},
     {write_leading_zero, "", RESP_CAUSE_BAD_DIGITS},

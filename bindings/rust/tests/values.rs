@@ -111,12 +111,18 @@ fn refusals() {
     }
     assert_eq!(decoder.finish(), Err(fault));
     assert_eq!(read(Version::Two, &[b"*1\r\n"]), Err(Fault { cause: Cause::Truncated, at: 4 }));
+    for (text, at) in [(",\r\n", 1), (",abc\r\n", 1), (",.5\r\n", 1), (",1.\r\n", 3), (",0x1p3\r\n", 2), (",nan(1)\r\n", 4)] {
+        let refused = Err(Fault { cause: Cause::Syntax, at });
+        assert_eq!(read(Version::Three, &[text.as_bytes()]), refused, "{text}");
+    }
     let mut written = b"before".to_vec();
     let bad = |digits: &str, negative| Value::Big { negative, digits: bytes(digits) };
     for (value, wanted) in [
         (Array(vec![Int(1), Simple(bytes("a\n"))]), AppendError::BadLine),
         (Value::Error(bytes("\r")), AppendError::BadLine),
         (Double(bytes("1\r")), AppendError::BadDigits),
+        (Double(bytes("abc")), AppendError::BadDigits),
+        (Double(bytes(".5")), AppendError::BadDigits),
         (bad("", false), AppendError::BadDigits),
         (bad("01", false), AppendError::BadDigits),
         (bad("0", true), AppendError::BadDigits),
