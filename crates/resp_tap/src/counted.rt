@@ -142,11 +142,7 @@ fn is_counted(filter: &Filter, client: u64, words: &Words) -> bool
 fn name_for(counted: bool, words: &Words) -> Option<Name>
     ensures { IsNameFor counted (table_name words.now) result }
 {
-    if counted {
-        Some(name_of(words))
-    } else {
-        None
-    }
+    if counted { Some(name_of(words)) } else { None }
 }
 
 /// Writes the line of a result if it is an error, and the filter lets lines about the client through.
