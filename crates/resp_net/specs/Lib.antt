@@ -1,5 +1,6 @@
 pub mod Placing
 pub mod Waits
+pub mod Lanes
 pub mod Cuts
 pub mod Descriptors
 pub mod Ways

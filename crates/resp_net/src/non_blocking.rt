@@ -102,7 +102,7 @@ impl<W> Output<W> {
     }
 
     /// Returns a writer over `inner` that writes at most `most` bytes at once, and at least one.
-    pub fn within(most: usize, inner: W) -> Self {
+    pub(crate) fn within(most: usize, inner: W) -> Self {
         Output {
             inner,
             most: most.max(1),
@@ -113,7 +113,7 @@ impl<W> Output<W> {
     }
 
     /// Returns the number of bytes that the last write has written.
-    pub fn written(&self) -> usize {
+    pub(crate) fn written(&self) -> usize {
         self.written
     }
 
