@@ -2,5 +2,6 @@ pub mod Placing
 pub mod Waits
 pub mod Lanes
 pub mod Cuts
+pub mod Pieces
 pub mod Descriptors
 pub mod Ways
