@@ -1,6 +1,6 @@
 //! One direction of a forwarded connection.
 
-ghost use Rattle.std.specs.Prelude.{◌≡◌, ◌≢◌, ◌||◌, ◌↔◌, ◌<◌, ◌≤◌, [], IsTrue, false, length, take, true};
+ghost use Rattle.std.specs.Prelude.{◌≡◌, ◌≢◌, ◌⊎◌, ◌||◌, ◌↔◌, ◌<◌, ◌≤◌, [], IsTrue, Some, false, length, take, true};
 
 use crate::non_blocking::{Input, Output};
 use crate::service::Next;
@@ -180,7 +180,10 @@ fn progress_after<W>(visited: Visited, would_wait: bool, writer: &Output<W>) -> 
 }
 
 /// Returns the result of a write after which bytes wait.
-pub fn after_write<W>(writer: &Output<W>) -> Progress {
+pub fn after_write<W>(writer: &Output<W>) -> Progress
+    ensures failed { (result ≡ Progress.Failed) ↔ (writer.now.has_failed ≡ true) }
+    ensures waits { result ≡ Progress.Waits → writer.now.would_wait ≡ true }
+{
     if writer.has_failed() {
         Progress::Failed
     } else if writer.would_wait() {
@@ -192,7 +195,14 @@ pub fn after_write<W>(writer: &Output<W>) -> Progress {
 
 /// Returns when a connection is visited next after a visit of both lanes, or `None` if it is visited again
 /// at once. `have_ended` says whether both sides have ended.
-pub fn next_of(one: Progress, other: Progress, have_ended: bool) -> Option<Next> {
+pub fn next_of(one: Progress, other: Progress, have_ended: bool) -> Option<Next>
+    ensures failed { (one ≡ Progress.Failed) ⊎ (other ≡ Progress.Failed) →
+        result ≡ Some Next.Close }
+    ensures closes { result ≡ Some Next.Close → (one ≡ Progress.Failed) ⊎
+        (other ≡ Progress.Failed) ⊎ (have_ended ≡ true) }
+    ensures waits { result ≡ Some Next.Wait → (one ≡ Progress.Waits) ×
+        (other ≡ Progress.Waits) × (have_ended ≡ false) }
+{
     match (one, other) {
         (Progress::Failed, _) | (_, Progress::Failed) => Some(Next::Close),
         (Progress::Waits, Progress::Waits) if have_ended => Some(Next::Close),
