@@ -13,7 +13,7 @@ use Rattle.resp_value.specs.Spellings.{IsSpelling}
 use Rattle.resp_value.specs.declared.version.Version.TheVariants.{Two}
 use Rattle.resp_scan.specs.Whole.{BeginsWith}
 use Rattle.resp_session.specs.Operations.{Operation}
-use Rattle.resp_session.specs.Stores.{Effect, Store, effect_of}
+use Rattle.resp_session.specs.Stores.{Store, effect_of}
 use Rattle.resp_server.specs.Running.{HasEffect, IsAsBefore}
 use Rattle.resp_server.specs.declared.database.Database.{Database}
 use Rattle.resp_server.specs.Deeds.{Request, asked_by}

@@ -1,10 +1,9 @@
-use Rattle.std.proofs.Common.{rules, ◌≡◌, ◌∷◌, [], ℕ, List, Option, true, false, sym, ap, refl, ◌∙◌}
+use Rattle.std.proofs.Common.{rules, ◌≡◌, ◌∷◌, [], true, false, ap, refl, ◌∙◌}
 use Rattle.std.specs.Prelude.{codes, option_map}
 use Rattle.std.specs.Str.{bytes_eq}
 use Rattle.resp_session.specs.Operations.{is_name}
-use Rattle.resp_server.specs.Deeds.{options_ask}
 use Rattle.resp_server.specs.Names.{is_client_name}
-use Rattle.resp_server.proofs.HelloOptions.{another_user, asks_so, bad_name, default_user, named, no_password, unknown}
+use Rattle.resp_server.proofs.HelloOptions.{asks_so, bad_name, default_user, named, no_password, unknown}
 use Rattle.resp_server.proofs.databases.options.options.Goals as goal
 
 pub returns-in_default-next : goal.returns-in_default-next
