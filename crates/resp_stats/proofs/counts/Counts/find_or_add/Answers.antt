@@ -1,4 +1,4 @@
-use Rattle.std.proofs.Common.{rules, ◌≡◌, ◌++◌, ◌∷◌, [], List, length, ℕ, ap, ◌∙◌, sym, subst, true}
+use Rattle.std.proofs.Common.{rules, ◌≡◌, ◌++◌, ◌∷◌, [], List, length, ℕ, sym, subst, true}
 use Rattle.resp_stats.specs.Rows.{has_name}
 use Rattle.resp_stats.specs.declared.row.CommandRow.{CommandRow}
 use Rattle.resp_stats.proofs.RowLemmas.{added_has}
