@@ -11,8 +11,10 @@ import sys
 LIMIT = 10
 SHOW = b'EVAL "return ARGV" 0 '
 PARTS = [b" ", b" ", b"\t", b"\r", b'"', b'"', b"'", b"'", b"\\", b"\\x41", b"\\x4", b"\\xZZ", b"\\n", b"\\r", b"\\t", b"\\b",
-         b"\\a", b"\\\\", b'\\"', b"\\'", b"a", b"b", b"*", b"$1", b"\xff", b"\x01", b"key", b'"a b"', b"'a b'", b'""', b"''"]
+         b"\\a", b"\\\\", b'\\"', b"\\'", b"a", b"b", b"*", b"$1", b"\xff", b"\x01", b"key", b"\x0b", b"\x0c",
+         b'"a b"', b"'a b'", b'""', b"''"]
 FIXED = [b"", b" ", b"\t \r", b"*0\r", b"*-1\r", b"\r", b"ping", b"PING  \t", b"$4", b"+OK", b"-1", b":1", b"ECHO a\rb", b'""',
+         b"\x0bPING", b"\x0c\x0b", b"ECHO a\x0bb", b'ECHO "a"\x0b', b'"ECHO"\x0c\x0b"a"',
          b"''  x", b'ECHO "a', b"ECHO 'a", b'ECHO "a"b', b"ECHO 'a'b", b'ECHO "a\\', b"ECHO a\"b c\"", b"ECHO a'b c'"]
 
 

@@ -39,7 +39,7 @@ struct Request<'a, 'b> {
 
 /// Sends the command in the words, or the commands of standard input, and prints the replies. The
 /// words are those of `asking`, whose bytes need not be text. Returns the exit status.
-pub fn run_ask<O: LiveSink>(
+pub(crate) fn run_ask<O: LiveSink>(
     rt: &HostRuntime,
     asking: &Asking<'_>,
     words: Vec<Vec<u8>>,
@@ -154,7 +154,7 @@ fn form_of(rt: &HostRuntime, asking: &Asking<'_>) -> ReplyForm {
 }
 
 /// Writes why a device failed, if one did.
-pub fn write_why(
+pub(crate) fn write_why(
     alloc: Global,
     failure: &Failure,
     faults: &mut Faults<'_>,

@@ -52,7 +52,7 @@ impl From<AllocError> for CheckError {
 
 /// Prints what the proxy would do with the commands of the server at one of these addresses. Returns the
 /// exit status.
-pub fn run_check<O: LiveSink>(
+pub(crate) fn run_check<O: LiveSink>(
     rt: &HostRuntime,
     proxying: &Proxying<'_>,
     server: &str,
@@ -131,7 +131,7 @@ fn check<R: Source, W: Sink, O: Sink>(
 }
 
 /// Asks the server for its commands, and returns what the proxy does with them.
-pub fn survey<R: Source, W: Sink>(
+pub(crate) fn survey<R: Source, W: Sink>(
     alloc: Global,
     proxying: &Proxying<'_>,
     password: Option<&str>,

@@ -25,7 +25,7 @@ pub struct Failures {
 
 impl Failures {
     /// Returns the state before any failure. Errors are not explained.
-    pub fn new() -> Self {
+    pub(crate) fn new() -> Self {
         Failures {
             read: Cell::new(None),
             write: Cell::new(None),
@@ -35,17 +35,17 @@ impl Failures {
     }
 
     /// Explains errors from here on, or not.
-    pub fn set_explains(&self, explains: bool) {
+    pub(crate) fn set_explains(&self, explains: bool) {
         self.explains.set(explains);
     }
 
     /// Returns whether errors are explained.
-    pub fn explains(&self) -> bool {
+    pub(crate) fn explains(&self) -> bool {
         self.explains.get()
     }
 
     /// Returns whether the last read failed because nothing came in its time.
-    pub fn is_late(&self) -> bool {
+    pub(crate) fn is_late(&self) -> bool {
         match self.read.get() {
             Some(error) => matches!(error.kind(), ErrorKind::WouldBlock | ErrorKind::TimedOut),
             None => false,
@@ -53,7 +53,7 @@ impl Failures {
     }
 
     /// Returns whether the reader of the output has closed it.
-    pub fn is_output_closed(&self) -> bool {
+    pub(crate) fn is_output_closed(&self) -> bool {
         self.is_closed.get()
     }
 }
@@ -68,7 +68,7 @@ pub struct Faults<'a> {
 
 impl<'a> Faults<'a> {
     /// Returns no error messages.
-    pub fn new(alloc: Global, failures: &'a Failures) -> Result<Self, AllocError> {
+    pub(crate) fn new(alloc: Global, failures: &'a Failures) -> Result<Self, AllocError> {
         Ok(Faults {
             lines: MemorySink::new(alloc, MOST_FAULTS, MOST_FAULTS)?,
             failures,
@@ -76,7 +76,7 @@ impl<'a> Faults<'a> {
     }
 
     /// Writes why a device failed, if errors are explained and `error` says that one failed.
-    pub fn write_why(&mut self, alloc: Global, error: &ToolError) -> Result<(), AllocError> {
+    pub(crate) fn write_why(&mut self, alloc: Global, error: &ToolError) -> Result<(), AllocError> {
         let reason = match error {
             ToolError::Read => self.failures.read.get(),
             ToolError::Write => self.failures.write.get(),
@@ -93,7 +93,7 @@ impl<'a> Faults<'a> {
     }
 
     /// Reports that a file or an address cannot be opened, and why. Returns the exit status.
-    pub fn refuse_opening(
+    pub(crate) fn refuse_opening(
         &mut self,
         alloc: Global,
         name: &str,
@@ -104,7 +104,7 @@ impl<'a> Faults<'a> {
     }
 
     /// Reports that no connection to a server can be opened, and why. Returns the exit status.
-    pub fn refuse_connection(
+    pub(crate) fn refuse_connection(
         &mut self,
         alloc: Global,
         server: &str,
@@ -116,7 +116,7 @@ impl<'a> Faults<'a> {
 
     /// Writes that a word is no value of an option, and then `wanted`: which option, and what it
     /// expects.
-    pub fn write_bad_value(&mut self, word: &str, wanted: &[u8]) -> Result<(), DeviceFault> {
+    pub(crate) fn write_bad_value(&mut self, word: &str, wanted: &[u8]) -> Result<(), DeviceFault> {
         write_text(&mut self.lines, b"error: invalid value '")?;
         write_text(&mut self.lines, word.as_bytes())?;
         write_text(&mut self.lines, wanted)?;
@@ -128,7 +128,7 @@ impl<'a> Faults<'a> {
 }
 
 /// Returns why something cannot be opened.
-pub fn reason_of(alloc: Global, error: &io::Error) -> Result<String, AllocError> {
+pub(crate) fn reason_of(alloc: Global, error: &io::Error) -> Result<String, AllocError> {
     let cause = cause_of(error);
     format!(in alloc; "{cause}")
 }
@@ -142,7 +142,7 @@ pub struct WatchedInput<'a, R> {
 
 impl<'a, R> WatchedInput<'a, R> {
     /// Makes a reader over `inner`.
-    pub fn new(inner: R, failures: &'a Failures) -> Self {
+    pub(crate) fn new(inner: R, failures: &'a Failures) -> Self {
         WatchedInput { inner, failures }
     }
 }
@@ -166,7 +166,7 @@ pub struct WatchedOutput<'a, W> {
 
 impl<'a, W> WatchedOutput<'a, W> {
     /// Makes a writer over `inner`.
-    pub fn new(inner: W, failures: &'a Failures) -> Self {
+    pub(crate) fn new(inner: W, failures: &'a Failures) -> Self {
         WatchedOutput { inner, failures }
     }
 }
@@ -194,7 +194,7 @@ pub struct StandardOutput<'a, W> {
 
 impl<'a, W> StandardOutput<'a, W> {
     /// Makes a writer over `inner`.
-    pub fn new(inner: W, failures: &'a Failures) -> Self {
+    pub(crate) fn new(inner: W, failures: &'a Failures) -> Self {
         StandardOutput {
             output: WatchedOutput::new(inner, failures),
         }

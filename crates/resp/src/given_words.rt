@@ -25,13 +25,13 @@ pub struct GivenWords {
 
 impl GivenWords {
     /// Returns words that are all UTF-8.
-    pub fn of_texts(texts: Vec<String>) -> GivenWords {
+    pub(crate) fn of_texts(texts: Vec<String>) -> GivenWords {
         GivenWords { texts, bytes: None }
     }
 
     /// Reads the words of the command line, of which one is not UTF-8. Returns `None` if it is not a
     /// word of the command of `ask`.
-    pub fn of_ask(rt: &HostRuntime) -> Result<Option<GivenWords>, AllocError> {
+    pub(crate) fn of_ask(rt: &HostRuntime) -> Result<Option<GivenWords>, AllocError> {
         let alloc = rt.alloc();
         let (mut texts, mut bytes) = (Vec::new(alloc), Vec::new(alloc));
         let mut first = None;
@@ -56,12 +56,12 @@ impl GivenWords {
     }
 
     /// Returns the words as texts. Another text is in place of a word that is not UTF-8.
-    pub fn texts(&self) -> &[String] {
+    pub(crate) fn texts(&self) -> &[String] {
         self.texts.as_slice()
     }
 
     /// Returns the words of the command of `ask`, which are the last words of the command line.
-    pub fn of_command(
+    pub(crate) fn of_command(
         &self,
         alloc: Global,
         asking: &Asking<'_>,

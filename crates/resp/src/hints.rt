@@ -18,7 +18,7 @@ enum Lack<'a> {
 
 /// Writes below the line of an error what is probably missing from the words of `ask`, if they look
 /// incomplete.
-pub fn write_hint<F: Sink>(asking: &Asking<'_>, faults: &mut F) -> Result<(), DeviceFault> {
+pub(crate) fn write_hint<F: Sink>(asking: &Asking<'_>, faults: &mut F) -> Result<(), DeviceFault> {
     match lack_of(asking) {
         None => Ok(()),
         Some(Lack::Server(name)) => {
@@ -43,7 +43,7 @@ pub fn write_hint<F: Sink>(asking: &Asking<'_>, faults: &mut F) -> Result<(), De
 }
 
 /// Writes below the line of an error what is at the path of a server, if that is no socket.
-pub fn write_path_hint<F: Sink>(
+pub(crate) fn write_path_hint<F: Sink>(
     rt: &HostRuntime,
     server: &ServerAddress<'_>,
     faults: &mut F,
@@ -64,7 +64,7 @@ pub fn write_path_hint<F: Sink>(
 
 /// Writes below the line of a file that does not exist which commands connect to a server, if the name of
 /// the file looks like the address of one.
-pub fn write_file_hint<F: Sink>(name: &str, faults: &mut F) -> Result<(), DeviceFault> {
+pub(crate) fn write_file_hint<F: Sink>(name: &str, faults: &mut F) -> Result<(), DeviceFault> {
     let port = match name.rsplit_once(':') {
         Some((_, port)) => port,
         None => name,

@@ -13,7 +13,7 @@ use std::{env, io};
 const PASSWORD: &str = "RESP_PASSWORD";
 
 /// Returns the password of the server, if the environment has one.
-pub fn password_of(rt: &HostRuntime) -> Option<String> {
+pub(crate) fn password_of(rt: &HostRuntime) -> Option<String> {
     env::var(rt, PASSWORD).ok()
 }
 
@@ -22,7 +22,10 @@ pub fn password_of(rt: &HostRuntime) -> Option<String> {
 /// # Errors
 ///
 /// `AllocError` if an allocation fails.
-pub fn listening_on(alloc: Global, address: &ListenAddress<'_>) -> Result<Address, AllocError> {
+pub(crate) fn listening_on(
+    alloc: Global,
+    address: &ListenAddress<'_>,
+) -> Result<Address, AllocError> {
     match *address {
         ListenAddress::Socket(address) => Ok(Address::Socket(address)),
         ListenAddress::Path(path) => Ok(Address::Path(String::from_str(alloc, path)?)),
@@ -34,7 +37,7 @@ pub fn listening_on(alloc: Global, address: &ListenAddress<'_>) -> Result<Addres
 /// # Errors
 ///
 /// The error of the system if it finds no address, or an error of kind `OutOfMemory`.
-pub fn addresses_of(
+pub(crate) fn addresses_of(
     net: &impl Net,
     alloc: Global,
     server: &ServerAddress<'_>,
@@ -55,7 +58,10 @@ pub fn addresses_of(
 /// # Errors
 ///
 /// `AllocError` if an allocation fails.
-pub fn backend_of(rt: &HostRuntime, server: &ServerAddress<'_>) -> Result<Backend, AllocError> {
+pub(crate) fn backend_of(
+    rt: &HostRuntime,
+    server: &ServerAddress<'_>,
+) -> Result<Backend, AllocError> {
     let alloc = rt.alloc();
     let name = name_of(alloc, server)?;
     let address = match *server {
@@ -101,7 +107,7 @@ fn add(addresses: &mut Vec<Address>, address: Address) -> io::Result<()> {
 }
 
 /// Returns the name of a server for lines about it: the host and the port.
-pub fn name_of(alloc: Global, server: &ServerAddress<'_>) -> Result<String, AllocError> {
+pub(crate) fn name_of(alloc: Global, server: &ServerAddress<'_>) -> Result<String, AllocError> {
     match server {
         ServerAddress::Socket(address) => format!(in alloc; "{address}"),
         ServerAddress::Named { host, port } => format!(in alloc; "{host}:{port}"),
@@ -110,7 +116,7 @@ pub fn name_of(alloc: Global, server: &ServerAddress<'_>) -> Result<String, Allo
 }
 
 /// Reports that the system found no address of a server, and why. Returns the exit status.
-pub fn refuse_server(
+pub(crate) fn refuse_server(
     alloc: Global,
     server: &ServerAddress<'_>,
     error: &io::Error,

@@ -51,7 +51,7 @@ impl ClientsSearch {
 /// # Errors
 ///
 /// A failed read, too many reads, or an allocation that fails.
-pub fn read_input<R: Source>(alloc: Global, reader: &mut R) -> Result<Vec<u8>, ToolError> {
+pub(crate) fn read_input<R: Source>(alloc: Global, reader: &mut R) -> Result<Vec<u8>, ToolError> {
     let mut bytes = Vec::new(alloc);
     let mut search = ClientsSearch {
         matched: Some(0),

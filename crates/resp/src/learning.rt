@@ -50,7 +50,7 @@ pub struct Learning<'a> {
 
 impl<'a> Learning<'a> {
     /// Returns the `Learning` of a proxy, before the server is asked.
-    pub fn new(rt: &'a HostRuntime, proxying: &'a Proxying<'a>) -> Self {
+    pub(crate) fn new(rt: &'a HostRuntime, proxying: &'a Proxying<'a>) -> Self {
         Learning {
             rt,
             proxying,
@@ -65,7 +65,7 @@ impl<'a> Learning<'a> {
     /// # Errors
     ///
     /// `AllocError` if an allocation fails.
-    pub fn begin(&mut self, server: &mut ProxyServer) -> Result<(), AllocError> {
+    pub(crate) fn begin(&mut self, server: &mut ProxyServer) -> Result<(), AllocError> {
         if !self.proxying.learns {
             return Ok(());
         }

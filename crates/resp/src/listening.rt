@@ -89,7 +89,7 @@ impl From<ToolError> for ListenError {
 }
 
 /// Serves clients at the address in the words. Returns the status if that fails.
-pub fn run_serve<W: LiveSink>(
+pub(crate) fn run_serve<W: LiveSink>(
     rt: &HostRuntime,
     serving: &Serving<'_>,
     writer: &mut W,
@@ -142,7 +142,7 @@ fn run_server<C: Drop, T: Store<C> + Drop, W: LiveSink>(
 }
 
 /// Runs the tap between clients and the server in the words. Returns the status when it has ended.
-pub fn run_tap<W: LiveSink>(
+pub(crate) fn run_tap<W: LiveSink>(
     rt: &HostRuntime,
     tapping: &Tapping<'_>,
     writer: &mut Painted<W>,
@@ -226,7 +226,7 @@ fn run_window<W: LiveSink>(
 }
 
 /// Returns the filter that the options ask for.
-pub fn filter_of(
+pub(crate) fn filter_of(
     alloc: Global,
     options: &FilterOptions<'_>,
     slower: Option<u64>,
@@ -250,7 +250,7 @@ pub fn filter_of(
 }
 
 /// Returns when tables are printed, if commands are counted.
-pub fn tables_of(stats: StatsOptions) -> Option<Tables> {
+pub(crate) fn tables_of(stats: StatsOptions) -> Option<Tables> {
     if stats.every > 0 {
         return Some(Tables::Every(Duration::from_micros(stats.every)));
     }
@@ -258,7 +258,7 @@ pub fn tables_of(stats: StatsOptions) -> Option<Tables> {
 }
 
 /// Returns whether `tap` prints times. `is_slow` says whether it prints only slow commands.
-pub fn tells_time(tapping: &Tapping<'_>, is_slow: bool) -> bool {
+pub(crate) fn tells_time(tapping: &Tapping<'_>, is_slow: bool) -> bool {
     tapping.tells_time || tapping.tells_date || is_slow || tapping.style.json
 }
 
@@ -357,7 +357,7 @@ fn record(rt: &HostRuntime, window: &mut Window, file: Option<&str>) -> Result<(
 
 /// Runs the proxy between clients and the server in the words, or checks the commands of the server.
 /// Returns the status when it has ended.
-pub fn run_proxy<W: LiveSink>(
+pub(crate) fn run_proxy<W: LiveSink>(
     rt: &HostRuntime,
     proxying: &Proxying<'_>,
     writer: &mut W,

@@ -24,7 +24,7 @@ const PROXY: u32 = 11;
 
 /// Returns the descriptors of `proxy`. Clients share some connections to the server, and some clients
 /// have one of their own.
-pub fn descriptors_of_proxy(options: &ProxyOptions) -> Descriptors {
+pub(crate) fn descriptors_of_proxy(options: &ProxyOptions) -> Descriptors {
     let lines = options.lines.min(MOST_CLIENTS as usize) as u32;
     Descriptors {
         fixed: PROXY + lines,
@@ -35,7 +35,11 @@ pub fn descriptors_of_proxy(options: &ProxyOptions) -> Descriptors {
 /// Returns the maximum number of clients at once: the number that is given, or as many as the limit
 /// of file descriptors allows. If this limit is too low for the given number, reports this on
 /// standard error.
-pub fn most_clients(rt: &HostRuntime, given: Option<usize>, descriptors: Descriptors) -> usize {
+pub(crate) fn most_clients(
+    rt: &HostRuntime,
+    given: Option<usize>,
+    descriptors: Descriptors,
+) -> usize {
     let limit = limit();
     let Some(clients) = given else {
         return descriptors.most_clients(limit) as usize;

@@ -12,7 +12,7 @@ const WAITS: &[u8] = b"reading standard input; Ctrl-D ends it\n";
 /// # Errors
 ///
 /// The error of the system, or an error of kind `IsADirectory` if it is a directory.
-pub fn open_file(rt: &HostRuntime, name: &str) -> io::Result<File> {
+pub(crate) fn open_file(rt: &HostRuntime, name: &str) -> io::Result<File> {
     let file = File::open(rt, name)?;
     match file.metadata() {
         Ok(metadata) if metadata.is_dir() => Err(ErrorKind::IsADirectory.into()),
@@ -22,7 +22,7 @@ pub fn open_file(rt: &HostRuntime, name: &str) -> io::Result<File> {
 
 /// Says on standard error that the program reads standard input, if that is the input and a
 /// terminal.
-pub fn tell_waiting(rt: &HostRuntime, name: &str) {
+pub(crate) fn tell_waiting(rt: &HostRuntime, name: &str) {
     if name == STANDARD_INPUT && rt.stdin().is_terminal() {
         let _ = rt.stderr().write_all(WAITS);
     }

@@ -13,7 +13,7 @@ pub struct Prompting<'a, R, W> {
 
 impl<'a, R, W> Prompting<'a, R, W> {
     /// Returns a reader over `inner` that prints a prompt to `terminal`.
-    pub fn new(inner: R, terminal: W, prompt: &'a str) -> Self {
+    pub(crate) fn new(inner: R, terminal: W, prompt: &'a str) -> Self {
         Prompting {
             inner,
             terminal,
@@ -35,7 +35,7 @@ impl<R: Read, W: Write> Read for Prompting<'_, R, W> {
 }
 
 /// Returns whether commands are typed on a terminal and their replies are read there.
-pub fn is_typed(rt: &HostRuntime, asking: &Asking<'_>) -> bool {
+pub(crate) fn is_typed(rt: &HostRuntime, asking: &Asking<'_>) -> bool {
     let takes_lines = asking.words.is_empty() && !asking.options.raw && !asking.options.counts;
     takes_lines && rt.stdin().is_terminal() && rt.stdout().is_terminal()
 }

@@ -42,7 +42,7 @@ fn port_of(port: u64) -> Option<u16> {
 }
 
 /// Prints the traffic in a capture, and returns the status.
-pub fn run_replay<W: LiveSink>(
+pub(crate) fn run_replay<W: LiveSink>(
     rt: &HostRuntime,
     tapping: &Tapping<'_>,
     captured: &Captured<'_>,

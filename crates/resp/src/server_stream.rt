@@ -25,7 +25,7 @@ impl ServerStream {
     /// # Errors
     ///
     /// The error of the last address, or an error of kind `AddrNotAvailable` if there is no address.
-    pub fn connect(
+    pub(crate) fn connect(
         rt: &HostRuntime,
         addresses: &[Address],
         timeout: Option<Duration>,

@@ -15,7 +15,7 @@ const BAD_COLOR: &[u8] = b"' for '--color <WHEN>': expected auto, always or neve
 /// Returns the style that the options ask for. Without `--color`, and with `--color auto`, text has
 /// colors if standard output is a terminal and `NO_COLOR` is not set. JSON is printed as it is. If
 /// `--color` is given with another word, reports it and returns `None`.
-pub fn style_of(
+pub(crate) fn style_of(
     rt: &HostRuntime,
     options: &StyleOptions<'_>,
     faults: &mut Faults<'_>,

@@ -128,7 +128,7 @@ impl Survey {
     /// # Errors
     ///
     /// `NoList` if the value is not a reply to COMMAND, and `Memory` if an allocation fails.
-    pub fn of_reply(
+    pub(crate) fn of_reply(
         alloc: Global,
         reply: &Value,
         proxying: &Proxying<'_>,
@@ -199,7 +199,7 @@ impl Survey {
     }
 
     /// Returns whether the server has a command that the proxy does not know.
-    pub fn has_unknown(&self) -> bool {
+    pub(crate) fn has_unknown(&self) -> bool {
         self.count(Treatment::Unknown) > 0
     }
 
@@ -211,7 +211,7 @@ impl Survey {
 
     /// Prints the number of commands for each treatment, and the names of the commands that are not sent
     /// over the shared connection.
-    pub fn print<W: Sink>(&self, server: &str, writer: &mut W) -> Result<(), DeviceFault> {
+    pub(crate) fn print<W: Sink>(&self, server: &str, writer: &mut W) -> Result<(), DeviceFault> {
         write_number(writer, b"", self.listed.len() as u64, b" commands of ")?;
         write_text(writer, server.as_bytes())?;
         write_text(writer, b"\n")?;
@@ -302,13 +302,13 @@ impl Survey {
     }
 
     /// Returns the number of commands and subcommands.
-    pub fn len(&self) -> usize {
+    pub(crate) fn len(&self) -> usize {
         self.listed.len()
     }
 
     /// Returns the name of the command in this place, if `--learn` admits it. Only the first subcommand of
     /// a command returns its name.
-    pub fn learnable(&self, place: usize) -> Option<&[u8]> {
+    pub(crate) fn learnable(&self, place: usize) -> Option<&[u8]> {
         let listed = self.listed.get(place)?;
         let name = command_of(listed.name.as_slice());
         let before = place
@@ -322,7 +322,7 @@ impl Survey {
     }
 
     /// Prints a line for each command.
-    pub fn print_all<W: Sink>(&self, writer: &mut W) -> Result<(), DeviceFault> {
+    pub(crate) fn print_all<W: Sink>(&self, writer: &mut W) -> Result<(), DeviceFault> {
         for listed in &self.listed {
             write_text(writer, listed.treatment.word())?;
             write_text(writer, b" ")?;

@@ -17,7 +17,7 @@ use std::time::Duration;
 /// # Errors
 ///
 /// `AllocError` if an allocation fails.
-pub fn write_order_hint(
+pub(crate) fn write_order_hint(
     rt: &HostRuntime,
     listen: &ListenAddress<'_>,
     server: &ServerAddress<'_>,

@@ -1,5 +1,10 @@
 //! A client with its connection, which sends the commands of an input.
 
+ghost use Rattle.std.specs.Prelude.{◌≡◌, IfOk, map, option_map};
+ghost use Rattle.resp_value.specs.Commands.{words_of};
+ghost use Rattle.resp_value.specs.Words.{texts_of};
+ghost use Rattle.resp_cli_ask.specs.Talks.{auth_words};
+
 use crate::ask::ask_command;
 use crate::commands::{CommandInput, CommandPlace};
 use crate::error::ExchangeError;
@@ -287,7 +292,10 @@ impl<'a, R: Source, W: Sink> Talk<'a, R, W> {
 }
 
 /// Returns the command AUTH.
-fn auth(alloc: Global, user: Option<&str>, password: &str) -> Result<Command, Failure> {
+fn auth(alloc: Global, user: Option<&str>, password: &str) -> Result<Command, Failure>
+    ensures { IfOk result (λ command. words_of command ≡
+        auth_words (option_map (λ name. name.now) user.entry) password.now) }
+{
     match user {
         Some(user) => command_of(bytes_of(alloc, &["AUTH", user, password])?),
         None => command_of(bytes_of(alloc, &["AUTH", password])?),
@@ -295,7 +303,9 @@ fn auth(alloc: Global, user: Option<&str>, password: &str) -> Result<Command, Fa
 }
 
 /// Returns the command with these words. There is at least one word.
-fn command_of(words: Vec<Vec<u8>>) -> Result<Command, Failure> {
+fn command_of(words: Vec<Vec<u8>>) -> Result<Command, Failure>
+    ensures { IfOk result (λ command. words_of command ≡ texts_of words.items) }
+{
     match Command::new(words) {
         Ok(command) => Ok(command),
         Err(_) => Err(Failure::Ask(ExchangeError::Refused(SendError::BadCommand))),
@@ -303,7 +313,9 @@ fn command_of(words: Vec<Vec<u8>>) -> Result<Command, Failure> {
 }
 
 /// Copies words.
-pub fn bytes_of(alloc: Global, words: &[&str]) -> Result<Vec<Vec<u8>>, AllocError> {
+pub fn bytes_of(alloc: Global, words: &[&str]) -> Result<Vec<Vec<u8>>, AllocError>
+    ensures { IfOk result (λ copies. texts_of copies.items ≡ map (λ word. word.now) words.now) }
+{
     let mut copies = Vec::new(alloc);
     for word in words {
         copies.push(Vec::from_slice(alloc, word.as_bytes())?)?;

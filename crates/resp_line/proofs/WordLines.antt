@@ -10,7 +10,7 @@ use Rattle.std.proofs.Common.{◌≡◌, ◌≢◌, ◌⊎◌, inl, inr, ◌<◌
 use Rattle.std.specs.List.{AllByRecursion}
 use Rattle.std.proofs.lemmas.List.{append-nil}
 use Rattle.resp_value.proofs.FirstBytes.{all_append}
-use Rattle.resp_line.specs.Lines.{AreWords, EndsBare, EndsWord, FollowsSpaces, IsWord, ReadsByte, ReadsQuoted, ReadsUpTo, StartsWord, is_bare, is_space, quote_byte}
+use Rattle.resp_line.specs.Lines.{AreWords, EndsBare, EndsQuote, EndsWord, FollowsBlanks, IsWord, ReadsByte, ReadsQuoted, ReadsUpTo, StartsWord, is_bare, is_blank, is_space, quote_byte}
 
 -- a byte more in quotes
 pub quoted_more : (q : Quote) (text rest mid content : List ℕ) (b : ℕ) → ((more end : List ℕ) → ReadsUpTo q more rest end → ReadsUpTo q (content ++ more) text end) →
@@ -18,12 +18,12 @@ pub quoted_more : (q : Quote) (text rest mid content : List ℕ) (b : ℕ) → (
 quoted_more q text rest mid content b so_far byte more end given =
     subst (λ z. ReadsUpTo q z text end) (sym (append_assoc content (b ∷ []) more)) (so_far (b ∷ more) end (mid, byte, given))
 
--- a space more
-pub space_more : (text rest beyond : List ℕ) (b : ℕ) → FollowsSpaces text rest → rest ≡ b ∷ beyond → is_space b ≡ true → FollowsSpaces text beyond
-space_more text rest beyond b (spaces, parts, are) is space = (
-  spaces ++ b ∷ [],
-  parts ∙ ap (λ z. spaces ++ z) is ∙ sym (append_assoc spaces (b ∷ []) beyond),
-  all_append (λ x. is_space x ≡ true) spaces (b ∷ []) are (space, tt),
+-- a blank more
+pub blank_more : (text rest beyond : List ℕ) (b : ℕ) → FollowsBlanks text rest → rest ≡ b ∷ beyond → is_blank b ≡ true → FollowsBlanks text beyond
+blank_more text rest beyond b (blanks, parts, are) is space = (
+  blanks ++ b ∷ [],
+  parts ∙ ap (λ z. blanks ++ z) is ∙ sym (append_assoc blanks (b ∷ []) beyond),
+  all_append (λ x. is_blank x ≡ true) blanks (b ∷ []) are (space, tt),
 )
 
 -- the closing quote
@@ -40,29 +40,33 @@ ends_bare_word rest inside b is ends double single =
     let bare : is_bare b ≡ false = subst EndsBare is ends in
     subst EndsWord (sym is) (ends_word b bare double single)
 
+-- a space is a blank
+blank_of_space : (b : ℕ) → is_space b ≡ true → is_blank b ≡ true
+blank_of_space b space = rw space refl
+
 -- a word of bytes that stand for themselves has at least one
 pub some_bare : (text rest bare : List ℕ) → text ≡ bare ++ rest → StartsWord text → EndsWord rest → length rest < length text
 some_bare text rest (x ∷ bare) parts starts ends = omega (arith, ap length parts, length-append bare rest)
 some_bare text [] [] parts starts ends = absurd (subst StartsWord parts starts)
 some_bare text (b ∷ rest) [] parts starts ends =
-    let first : is_space b ≡ false = subst StartsWord parts starts in
-    let bad : true ≡ false = sym ends ∙ first in cc
+    let first : is_blank b ≡ false = subst StartsWord parts starts in
+    let bad : true ≡ false = sym (blank_of_space b ends) ∙ first in cc
 
 -- a word more
-pub word_more : (line after rest after' word : List ℕ) (words : List (List ℕ)) → FollowsSpaces after rest →
+pub word_more : (line after rest after' word : List ℕ) (words : List (List ℕ)) → FollowsBlanks after rest →
     ((more : List (List ℕ)) → AreWords more after → AreWords (words ++ more) line) → IsWord word rest after' →
     (more : List (List ℕ)) → AreWords more after' → AreWords ((words ++ word ∷ []) ++ more) line
-word_more line after rest after' word words (spaces, parts, are) so_far is more given =
+word_more line after rest after' word words (blanks, parts, are) so_far is more given =
     subst (λ z. AreWords z line) (sym (append_assoc words (word ∷ []) more))
-    (so_far (word ∷ more) (spaces, rest, after', parts, are, is, given))
+    (so_far (word ∷ more) (blanks, rest, after', parts, are, is, given))
 
 -- no word more
-pub words_end : (line after rest : List ℕ) (words : List (List ℕ)) → FollowsSpaces after rest → length rest ≡ 0 →
+pub words_end : (line after rest : List ℕ) (words : List (List ℕ)) → FollowsBlanks after rest → length rest ≡ 0 →
     ((more : List (List ℕ)) → AreWords more after → AreWords (words ++ more) line) → AreWords words line
-words_end line after (b ∷ rest) words spaces none so_far = absurd (omega (arith, none))
-words_end line after [] words (spaces, parts, are) none so_far =
-    let all : after ≡ spaces = parts ∙ append-nil spaces in
-    subst (λ z. AreWords z line) (append-nil words) (so_far [] (subst (AllByRecursion (λ b. is_space b ≡ true)) (sym all) are))
+words_end line after (b ∷ rest) words blanks none so_far = absurd (omega (arith, none))
+words_end line after [] words (blanks, parts, are) none so_far =
+    let all : after ≡ blanks = parts ∙ append-nil blanks in
+    subst (λ z. AreWords z line) (append-nil words) (so_far [] (subst (AllByRecursion (λ b. is_blank b ≡ true)) (sym all) are))
 
 -- a backslash before another byte
 pub escape_read : (text beyond after : List ℕ) (b c : ℕ) → text ≡ b ∷ beyond → b ≡ 92 → beyond ≡ c ∷ after →
@@ -87,11 +91,11 @@ bare_word text rest word word' empty (bare, is, are, parts) starts ends = record
   bare = bare;
   quoted = [];
   mid = rest;
+  starts = starts;
   parts = is ∙ ap (λ z. z ++ bare) empty ∙ sym (append-nil bare);
   are_bare = are;
   begins = parts;
-  read = inl (refl, refl, some_bare text rest bare parts starts ends);
-  ends = ends;
+  read = inl (refl, refl, ends);
 }
 
 byte_shorter : (q : Quote) (b : ℕ) (text rest : List ℕ) → ReadsByte q b text rest → length rest < length text
@@ -110,14 +114,14 @@ quoted_shorter q (b ∷ content) text rest (mid, byte, read) =
 pub shorter_word : (word text rest : List ℕ) → IsWord word text rest → StartsWord text → length rest < length text
 shorter_word word text rest is starts = go is.read
   where
-    go : ((is.quoted ≡ []) × (rest ≡ is.mid) × (length rest < length text)) ⊎ ReadsQuoted is.quoted is.mid rest → length rest < length text
-    go (inl bare) = bare.2
-    go (inr (q, inside, opens, read)) =
+    go : ((is.quoted ≡ []) × (rest ≡ is.mid) × EndsWord rest) ⊎ (ReadsQuoted is.quoted is.mid rest × EndsQuote rest) → length rest < length text
+    go (inl (none, same, ends)) = some_bare text rest is.bare (is.begins ∙ ap (λ z. is.bare ++ z) (sym same)) starts ends
+    go (inr ((q, inside, opens, read), ends)) =
         let some = quoted_shorter q is.quoted inside rest read in
         omega (arith, ap length is.begins, length-append is.bare is.mid, ap length opens, some)
 
-pub spaces_shorter : (text rest : List ℕ) → FollowsSpaces text rest → length rest ≤ length text
-spaces_shorter text rest (spaces, parts, are) = omega (arith, ap length parts, length-append spaces rest)
+pub blanks_shorter : (text rest : List ℕ) → FollowsBlanks text rest → length rest ≤ length text
+blanks_shorter text rest (blanks, parts, are) = omega (arith, ap length parts, length-append blanks rest)
 
 -- ---- there is one way to read a line
 
@@ -211,13 +215,6 @@ span_rest p (c ∷ a) (c' ∷ b) x y pa pb same sx sy = span_rest p a b x y pa.1
 space_not_bare : (b : ℕ) → is_space b ≡ true → is_bare b ≡ false
 space_not_bare b space = rw space refl
 
-bare_not_space : (b : ℕ) → is_bare b ≡ true → is_space b ≡ false
-bare_not_space b bare = by (is_space b) refl
-  where
-    by : (s : Bool) → is_space b ≡ s → is_space b ≡ false
-    by false is = is
-    by true is = absurd (false_true (is_bare b) (space_not_bare b is) bare)
-
 stops_word : (rest : List ℕ) → EndsWord rest → Stops is_bare rest
 unfolding Stops
 stops_word [] ends = tt
@@ -246,9 +243,9 @@ stops_mid : (word text rest : List ℕ) → (is : IsWord word text rest) → Sto
 unfolding Stops
 stops_mid word text rest is = go is.read
   where
-    go : ((is.quoted ≡ []) × (rest ≡ is.mid) × (length rest < length text)) ⊎ ReadsQuoted is.quoted is.mid rest → Stops is_bare is.mid
-    go (inl (none, same, some)) = subst (Stops is_bare) same (stops_word rest is.ends)
-    go (inr (q, inside, opens, read)) = subst (Stops is_bare) (sym opens) (quote_not_bare q)
+    go : ((is.quoted ≡ []) × (rest ≡ is.mid) × EndsWord rest) ⊎ (ReadsQuoted is.quoted is.mid rest × EndsQuote rest) → Stops is_bare is.mid
+    go (inl (none, same, ends)) = subst (Stops is_bare) same (stops_word rest ends)
+    go (inr ((q, inside, opens, read), ends)) = subst (Stops is_bare) (sym opens) (quote_not_bare q)
 
 mid_is : (word text end bare rest : List ℕ) → (is : IsWord word text end) → AllByRecursion (λ b. is_bare b ≡ true) bare → text ≡ bare ++ rest →
     EndsBare rest → is.mid ≡ rest
@@ -267,9 +264,9 @@ bare_only text rest word word' (bare, made, are, parts) stops ends other end is 
     mid : is.mid ≡ rest
     mid = mid_is other text end bare rest is are parts stops
 
-    go : ((is.quoted ≡ []) × (end ≡ is.mid) × (length end < length text)) ⊎ ReadsQuoted is.quoted is.mid end → end ≡ rest
-    go (inl (none, same, some)) = same ∙ mid
-    go (inr (q, inside, opens, read)) = absurd (false_true (is_space (quote_byte q)) (quote_no_space q) (subst EndsWord (sym mid ∙ opens) ends))
+    go : ((is.quoted ≡ []) × (end ≡ is.mid) × EndsWord end) ⊎ (ReadsQuoted is.quoted is.mid end × EndsQuote end) → end ≡ rest
+    go (inl (none, same, stop)) = same ∙ mid
+    go (inr ((q, inside, opens, read), stop)) = absurd (false_true (is_space (quote_byte q)) (quote_no_space q) (subst EndsWord (sym mid ∙ opens) ends))
 
 -- what a quoted text leads to, and whether it leads anywhere
 abbrev pub OnlyQuoted : List ℕ → Option (Bor (List ℕ)) → Type 0
@@ -290,21 +287,21 @@ only_quoted q mid inside None opens only opened = (tt, inside_quotes (λ end. �
 
 -- a word whose text in quotes begins where the bytes without quotes end
 word_quoted : (P : List ℕ → Type 0) (text mid inside bare : List ℕ) (q : Quote) → AllByRecursion (λ b. is_bare b ≡ true) bare → text ≡ bare ++ mid → EndsBare mid →
-    mid ≡ quote_byte q ∷ inside → ((content end : List ℕ) → ReadsQuoted content mid end → EndsWord end → P end) →
+    mid ≡ quote_byte q ∷ inside → ((content end : List ℕ) → ReadsQuoted content mid end → EndsQuote end → P end) →
     (other end : List ℕ) → IsWord other text end → P end
 word_quoted P text mid inside bare q are parts stops opens given other end is = go is.read
   where
     same : is.mid ≡ mid
     same = mid_is other text end bare mid is are parts stops
 
-    go : ((is.quoted ≡ []) × (end ≡ is.mid) × (length end < length text)) ⊎ ReadsQuoted is.quoted is.mid end → P end
-    go (inl (none, at, some)) = absurd (false_true (is_space (quote_byte q)) (quote_no_space q) (subst EndsWord (at ∙ same ∙ opens) is.ends))
-    go (inr read) = given is.quoted end (subst (λ z. ReadsQuoted is.quoted z end) same read) is.ends
+    go : ((is.quoted ≡ []) × (end ≡ is.mid) × EndsWord end) ⊎ (ReadsQuoted is.quoted is.mid end × EndsQuote end) → P end
+    go (inl (none, at, ends)) = absurd (false_true (is_space (quote_byte q)) (quote_no_space q) (subst EndsWord (at ∙ same ∙ opens) ends))
+    go (inr (read, ends)) = given is.quoted end (subst (λ z. ReadsQuoted is.quoted z end) same read) ends
 
 pub quoted_only : (text mid inside word word' : List ℕ) (q : Quote) (after : Option (Bor (List ℕ))) (end : WordEnd) →
     ((bare : List ℕ) × (word' ≡ word ++ bare) × AllByRecursion (λ b. is_bare b ≡ true) bare × (text ≡ bare ++ mid)) → EndsBare mid →
     mid ≡ quote_byte q ∷ inside → OnlyQuoted mid after →
-    IfSome after (λ bytes. IfEnded (λ rest. (rest ≡ bytes.now) × EndsWord rest) end) → IfNone after (IfEnded (λ _. ⊥) end) →
+    IfSome after (λ bytes. IfEnded (λ rest. (rest ≡ bytes.now) × EndsQuote rest) end) → IfNone after (IfEnded (λ _. ⊥) end) →
     IfEnded (λ rest. (other stop : List ℕ) → IsWord other text stop → stop ≡ rest) end
 quoted_only text mid inside word word' q (Some a) (Ended rest) (bare, made, are, parts) stops opens only closed none =
     word_quoted (λ stop. stop ≡ rest.now) text mid inside bare q are parts stops opens
@@ -315,7 +312,7 @@ quoted_only text mid inside word word' q after (NoSpace rest) all stops opens on
 
 pub quoted_none : (text mid inside word word' : List ℕ) (q : Quote) (after : Option (Bor (List ℕ))) (end : WordEnd) →
     ((bare : List ℕ) × (word' ≡ word ++ bare) × AllByRecursion (λ b. is_bare b ≡ true) bare × (text ≡ bare ++ mid)) → EndsBare mid →
-    mid ≡ quote_byte q ∷ inside → OnlyQuoted mid after → IfSome after (λ bytes. UnlessEnded (EndsWord bytes.now → ⊥) end) →
+    mid ≡ quote_byte q ∷ inside → OnlyQuoted mid after → IfSome after (λ bytes. UnlessEnded (EndsQuote bytes.now → ⊥) end) →
     UnlessEnded ((other stop : List ℕ) → IsWord other text stop → ⊥) end
 quoted_none text mid inside word word' q after (Ended rest) all stops opens only glued = tt
 quoted_none text mid inside word word' q None (Open count) (bare, made, are, parts) stops opens only glued =
@@ -324,61 +321,47 @@ quoted_none text mid inside word word' q None (NoSpace rest) (bare, made, are, p
     word_quoted (λ stop. ⊥) text mid inside bare q are parts stops opens (λ content stop read ends. only.1 content stop read)
 quoted_none text mid inside word word' q (Some a) (Open count) (bare, made, are, parts) stops opens only glued =
     word_quoted (λ stop. ⊥) text mid inside bare q are parts stops opens
-    (λ content stop read ends. glued (subst EndsWord (only.0 content stop read) ends))
+    (λ content stop read ends. glued (subst EndsQuote (only.0 content stop read) ends))
 quoted_none text mid inside word word' q (Some a) (NoSpace rest) (bare, made, are, parts) stops opens only glued =
     word_quoted (λ stop. ⊥) text mid inside bare q are parts stops opens
-    (λ content stop read ends. glued (subst EndsWord (only.0 content stop read) ends))
+    (λ content stop read ends. glued (subst EndsQuote (only.0 content stop read) ends))
 
--- a word begins with no space
-starts_word : (word text rest : List ℕ) → IsWord word text rest → Stops is_space text
-unfolding Stops
-starts_word word text rest is = go is.bare refl
-  where
-    go : (bare : List ℕ) → is.bare ≡ bare → Stops is_space text
-    go (b ∷ bare) same =
-        subst (Stops is_space) (sym (is.begins ∙ ap (λ z. z ++ is.mid) same))
-        (bare_not_space b (subst (AllByRecursion (λ c. is_bare c ≡ true)) same is.are_bare).0)
-    go [] same = mid_starts is.read
-      where
-        at : text ≡ is.mid
-        at = is.begins ∙ ap (λ z. z ++ is.mid) same
-
-        mid_starts : ((is.quoted ≡ []) × (rest ≡ is.mid) × (length rest < length text)) ⊎ ReadsQuoted is.quoted is.mid rest → Stops is_space text
-        mid_starts (inl (none, end, some)) = absurd (omega (arith, some, ap length end, ap length at))
-        mid_starts (inr (q, inside, opens, read)) = subst (Stops is_space) (sym (at ∙ opens)) (quote_no_space q)
-
-starts_text : (rest : List ℕ) → StartsWord rest → Stops is_space rest
+starts_text : (rest : List ℕ) → StartsWord rest → Stops is_blank rest
 unfolding Stops
 starts_text [] starts = tt
 starts_text (b ∷ rest) starts = starts
 
--- the words after the spaces
-word_at : (after rest : List ℕ) (words : List (List ℕ)) → FollowsSpaces after rest → StartsWord rest → AreWords words after →
+-- a word begins with no blank
+starts_word : (word text rest : List ℕ) → IsWord word text rest → Stops is_blank text
+starts_word word text rest is = starts_text text is.starts
+
+-- the words after the blanks
+word_at : (after rest : List ℕ) (words : List (List ℕ)) → FollowsBlanks after rest → StartsWord rest → AreWords words after →
     (word : List ℕ) × (more : List (List ℕ)) × (end : List ℕ) × IsWord word rest end × AreWords more end
-word_at after [] words spaces starts given = absurd starts
-word_at after (b ∷ rest) [] (spaces, parts, are) starts given =
-    absurd (false_true (is_space b) starts (last_space spaces (subst (AllByRecursion (λ c. is_space c ≡ true)) parts given)))
+word_at after [] words blanks starts given = absurd starts
+word_at after (b ∷ rest) [] (blanks, parts, are) starts given =
+    absurd (false_true (is_blank b) starts (last_blank blanks (subst (AllByRecursion (λ c. is_blank c ≡ true)) parts given)))
   where
-    last_space : (spaces : List ℕ) → AllByRecursion (λ c. is_space c ≡ true) (spaces ++ b ∷ rest) → is_space b ≡ true
-    last_space [] all = all.0
-    last_space (c ∷ spaces) all = last_space spaces all.1
-word_at after (b ∷ rest) (word ∷ words) (spaces, parts, are) starts (spaces', mid, end, parts', are', is, given) =
-    let same = span_rest is_space spaces' spaces mid (b ∷ rest) are' are (sym parts' ∙ parts) (starts_word word mid end is) (starts_text (b ∷ rest) starts) in
+    last_blank : (blanks : List ℕ) → AllByRecursion (λ c. is_blank c ≡ true) (blanks ++ b ∷ rest) → is_blank b ≡ true
+    last_blank [] all = all.0
+    last_blank (c ∷ blanks) all = last_blank blanks all.1
+word_at after (b ∷ rest) (word ∷ words) (blanks, parts, are) starts (blanks', mid, end, parts', are', is, given) =
+    let same = span_rest is_blank blanks' blanks mid (b ∷ rest) are' are (sym parts' ∙ parts) (starts_word word mid end is) (starts_text (b ∷ rest) starts) in
     (word, words, end, subst (λ z. IsWord word z end) same is, given)
 
-pub words_through : (line after rest after' : List ℕ) → FollowsSpaces after rest → StartsWord rest →
+pub words_through : (line after rest after' : List ℕ) → FollowsBlanks after rest → StartsWord rest →
     ((words : List (List ℕ)) → AreWords words line → (more : List (List ℕ)) × AreWords more after) →
     ((other end : List ℕ) → IsWord other rest end → end ≡ after') →
     (words : List (List ℕ)) → AreWords words line → (more : List (List ℕ)) × AreWords more after'
-words_through line after rest after' spaces starts through only words given =
+words_through line after rest after' blanks starts through only words given =
     let (more, read) = through words given in
-    let (word, others, end, is, left) = word_at after rest more spaces starts read in
+    let (word, others, end, is, left) = word_at after rest more blanks starts read in
     (others, subst (AreWords others) (only word end is) left)
 
-pub no_words : (line after rest : List ℕ) → FollowsSpaces after rest → StartsWord rest →
+pub no_words : (line after rest : List ℕ) → FollowsBlanks after rest → StartsWord rest →
     ((words : List (List ℕ)) → AreWords words line → (more : List (List ℕ)) × AreWords more after) →
     ((other end : List ℕ) → IsWord other rest end → ⊥) → (words : List (List ℕ)) → AreWords words line → ⊥
-no_words line after rest spaces starts through none words given =
+no_words line after rest blanks starts through none words given =
     let (more, read) = through words given in
-    let (word, others, end, is, left) = word_at after rest more spaces starts read in
+    let (word, others, end, is, left) = word_at after rest more blanks starts read in
     none word end is

@@ -1,14 +1,18 @@
 -- The words of a line, with the quoting of redis-cli.
-use Rattle.std.specs.Prelude.{◌≡◌, ◌≢◌, ◌⊎◌, ◌+◌, ◌*◌, ◌-◌, ℕ, Bool, true, false, not, ◌==◌, ◌&&◌, ◌||◌, nat_le, if◌then◌else◌, List, [], ◌∷◌, ◌++◌, length, ◌<◌, Option, None, Some}
+use Rattle.std.specs.Prelude.{◌≡◌, ◌≢◌, ◌⊎◌, ◌+◌, ◌*◌, ◌-◌, ℕ, Bool, true, false, not, ◌==◌, ◌&&◌, ◌||◌, nat_le, if◌then◌else◌, List, [], ◌∷◌, ◌++◌, Option, None, Some}
 use Rattle.std.specs.List.{AllByRecursion}
 use Rattle.resp_line.specs.declared.line.Quote.{Quote}
 use Rattle.resp_line.specs.declared.line.Quote.TheVariants.{Double, Single}
 use Rattle.resp_line.specs.declared.line.WordEnd.{WordEnd}
 use Rattle.resp_line.specs.declared.line.WordEnd.TheVariants.{Ended}
 
--- a byte that separates words: a space, a tab or a CR
+-- a byte that ends a word without quotes: a space, a tab or a CR
 abbrev pub is_space : ℕ → Bool
 is_space b = b == 32 || (b == 9 || b == 13)
+
+-- a byte that may be before a word and after a closing quote: a space, a tab, a CR, a vertical tab or a form feed
+abbrev pub is_blank : ℕ → Bool
+is_blank b = is_space b || (b == 11 || b == 12)
 
 -- a byte that stands for itself outside quotes: no space and no quote
 abbrev pub is_bare : ℕ → Bool
@@ -56,42 +60,47 @@ abbrev pub ReadsQuoted : List ℕ → List ℕ → List ℕ → Type 0
 ReadsQuoted content text rest =
     (quote : Quote) × (inside : List ℕ) × (text ≡ quote_byte quote ∷ inside) × ReadsUpTo quote content inside rest
 
--- a word ends before this rest: it is empty or begins with a space
+-- a word without quotes ends before this rest: it is empty or begins with a space
 abbrev pub EndsWord : List ℕ → Type 0
 EndsWord [] = Unit {0}
 EndsWord (b ∷ rest) = is_space b ≡ true
 
--- the text begins with a byte that is no space
+-- a word in quotes ends before this rest: it is empty or begins with a blank
+abbrev pub EndsQuote : List ℕ → Type 0
+EndsQuote [] = Unit {0}
+EndsQuote (b ∷ rest) = is_blank b ≡ true
+
+-- the text begins with a byte that is no blank
 abbrev pub StartsWord : List ℕ → Type 0
 StartsWord [] = ⊥
-StartsWord (b ∷ rest) = is_space b ≡ false
+StartsWord (b ∷ rest) = is_blank b ≡ false
 
 -- the text is empty or begins with a byte that does not stand for itself outside quotes
 abbrev pub EndsBare : List ℕ → Type 0
 EndsBare [] = Unit {0}
 EndsBare (b ∷ rest) = is_bare b ≡ false
 
--- the rest follows spaces at the beginning of the text
-abbrev pub FollowsSpaces : List ℕ → List ℕ → Type 0
-FollowsSpaces text rest = (spaces : List ℕ) × (text ≡ spaces ++ rest) × AllByRecursion (λ b. is_space b ≡ true) spaces
+-- the rest follows blanks at the beginning of the text
+abbrev pub FollowsBlanks : List ℕ → List ℕ → Type 0
+FollowsBlanks text rest = (blanks : List ℕ) × (text ≡ blanks ++ rest) × AllByRecursion (λ b. is_blank b ≡ true) blanks
 
--- The text begins with this word: bytes that stand for themselves, at least one, or a quoted text, which may follow
--- such bytes. Then it ends or a space follows.
+-- The text begins with this word, and with no blank. The word is bytes that stand for themselves, up to a space or the
+-- end; or a quoted text, which may follow such bytes, up to a blank or the end.
 pub record IsWord (word text rest : List ℕ) : Type 0 where
   pub bare : List ℕ
   pub quoted : List ℕ
   pub mid : List ℕ
+  pub starts : StartsWord text
   pub parts : word ≡ bare ++ quoted
   pub are_bare : AllByRecursion (λ b. is_bare b ≡ true) bare
   pub begins : text ≡ bare ++ mid
-  pub read : ((quoted ≡ []) × (rest ≡ mid) × (length rest < length text)) ⊎ ReadsQuoted quoted mid rest
-  pub ends : EndsWord rest
+  pub read : ((quoted ≡ []) × (rest ≡ mid) × EndsWord rest) ⊎ (ReadsQuoted quoted mid rest × EndsQuote rest)
 
--- the line is these words, between spaces
+-- the line is these words, between blanks
 abbrev pub AreWords : List (List ℕ) → List ℕ → Type 0
-AreWords [] text = AllByRecursion (λ b. is_space b ≡ true) text
-AreWords (word ∷ words) text = (spaces : List ℕ) × (mid : List ℕ) × (rest : List ℕ) × (text ≡ spaces ++ mid) ×
-    AllByRecursion (λ b. is_space b ≡ true) spaces × IsWord word mid rest × AreWords words rest
+AreWords [] text = AllByRecursion (λ b. is_blank b ≡ true) text
+AreWords (word ∷ words) text = (blanks : List ℕ) × (mid : List ℕ) × (rest : List ℕ) × (text ≡ blanks ++ mid) ×
+    AllByRecursion (λ b. is_blank b ≡ true) blanks × IsWord word mid rest × AreWords words rest
 
 -- if a word is complete, this holds of the bytes after it
 abbrev pub IfEnded : (List ℕ → Type 0) → WordEnd → Type 0

@@ -3,7 +3,7 @@
 ghost use Rattle.std.specs.Prelude.{◌≡◌, ◌≢◌, ◌≤◌, ◌<◌, ◌++◌, [], ◌∷◌, ℕ, List, true, length, IfErr, IfNone, IfOk, IfSome, IsSome, OnOk};
 ghost use Rattle.std.specs.List.{AllByRecursion};
 ghost use Rattle.resp_value.specs.Words.{texts_of};
-ghost use Rattle.resp_line.specs.Lines.{AreWords, EndsBare, EndsWord, FollowsSpaces, IfEnded, IsHexPair, IsWord, ReadsByte, ReadsUpTo, StartsWord, UnlessEnded, escaped, hex_value, is_bare, is_space, quote_byte};
+ghost use Rattle.resp_line.specs.Lines.{AreWords, EndsBare, EndsQuote, FollowsBlanks, IfEnded, IsHexPair, IsWord, ReadsByte, ReadsUpTo, StartsWord, UnlessEnded, escaped, hex_value, is_bare, is_blank, is_space, quote_byte};
 
 use std::alloc::{AllocError, Global};
 use thiserror::Error;
@@ -14,7 +14,7 @@ pub enum LineError {
     /// The quote at this byte of the line, counted from 0, is not closed.
     #[error("the quote at byte {at} is not closed")]
     Open { at: usize },
-    /// A closing quote is before this byte of the line, counted from 0, which is not a space.
+    /// A closing quote is before this byte of the line, counted from 0, which is not a blank.
     #[error("no space after the closing quote, at byte {at}")]
     NoSpace { at: usize },
     /// An allocation failed.
@@ -22,11 +22,19 @@ pub enum LineError {
     Memory,
 }
 
-/// Returns whether a byte separates words: a space, a tab or a CR.
+/// Returns whether a byte ends a word without quotes: a space, a tab or a CR.
 fn is_space(byte: u8) -> bool
     ensures { result ≡ is_space byte }
 {
     byte == b' ' || byte == b'\t' || byte == b'\r'
+}
+
+/// Returns whether a byte may be before a word and after a closing quote: a space, a tab, a CR, a
+/// vertical tab or a form feed.
+fn is_blank(byte: u8) -> bool
+    ensures { result ≡ is_blank byte }
+{
+    is_space(byte) || byte == 11 || byte == 12
 }
 
 /// Returns whether a byte stands for itself outside quotes: it is neither a space nor a quote.
@@ -36,14 +44,14 @@ fn is_bare(byte: u8) -> bool
     !is_space(byte) && byte != b'"' && byte != b'\''
 }
 
-/// Returns a text without the spaces at its beginning.
-fn without_spaces(text: &[u8]) -> &[u8]
-    ensures spaces { FollowsSpaces text.now result.now }
+/// Returns a text without the blanks at its beginning.
+fn without_blanks(text: &[u8]) -> &[u8]
+    ensures blanks { FollowsBlanks text.now result.now }
     ensures starts { 0 < length result.now → StartsWord result.now }
 {
     let mut rest = text;
     while let Some((byte, beyond)) = rest.split_first() {
-        if !is_space(*byte) {
+        if !is_blank(*byte) {
             return rest;
         }
         rest = beyond;
@@ -232,12 +240,12 @@ enum WordEnd<'a> {
     Ended(&'a [u8]),
     /// A quote is not closed. Before it are this many bytes.
     Open(usize),
-    /// A byte that is not a space follows a closing quote. These bytes follow the quote.
+    /// A byte that is not a blank follows a closing quote. These bytes follow the quote.
     NoSpace(&'a [u8]),
 }
 
 /// Reads the word at the beginning of a text into `word`, which is empty. The text begins with a
-/// byte that is not a space.
+/// byte that is not a blank.
 fn read_word<'a>(text: &'a [u8], word: &mut Vec<u8>) -> Result<WordEnd<'a>, AllocError>
     requires empty { word.old.items ≡ [] }
     requires begins { StartsWord text.now }
@@ -262,18 +270,18 @@ fn read_word<'a>(text: &'a [u8], word: &mut Vec<u8>) -> Result<WordEnd<'a>, Allo
 /// Returns the end of a word whose quote opens after `open` bytes, with the bytes after the closing
 /// quote if there is one.
 fn word_end(after: Option<&[u8]>, open: usize) -> WordEnd<'_>
-    ensures closed { IfSome after.entry (λ bytes. IfEnded (λ rest. (rest ≡ bytes.now) × EndsWord rest)
+    ensures closed { IfSome after.entry (λ bytes. IfEnded (λ rest. (rest ≡ bytes.now) × EndsQuote rest)
         result) }
     ensures open { IfNone after.entry (IfEnded (λ _. ⊥) result) }
     ensures glued { IfSome after.entry (λ bytes.
-        UnlessEnded (EndsWord bytes.now → ⊥) result) }
+        UnlessEnded (EndsQuote bytes.now → ⊥) result) }
 {
     let Some(after) = after else {
         return WordEnd::Open(open);
     };
     match after.split_first() {
         Some((byte, _)) => {
-            if is_space(*byte) {
+            if is_blank(*byte) {
                 WordEnd::Ended(after)
             } else {
                 WordEnd::NoSpace(after)
@@ -295,16 +303,17 @@ fn push_word(words: &mut Vec<Vec<u8>>, word: Vec<u8>) -> Result<(), LineError>
     }
 }
 
-/// Returns the words of a line without its LF. A line of spaces has no words.
+/// Returns the words of a line without its LF. A line of blanks has no words.
 ///
-/// Words are separated by spaces, tabs and CR. A word may end with a text in quotes. In double quotes
+/// Words are separated by spaces, tabs and CR. Before a word and after a closing quote, vertical tabs
+/// and form feeds are blanks too. A word may end with a text in quotes. In double quotes
 /// `\n`, `\r`, `\t`, `\b`, `\a` and `\xHH` stand for bytes, and a backslash before any other byte for
 /// that byte. In single quotes `\'` stands for a quote.
 ///
 /// # Errors
 ///
 /// - [`LineError::Open`] if a quote is not closed.
-/// - [`LineError::NoSpace`] if a byte other than a space follows a closing quote.
+/// - [`LineError::NoSpace`] if a byte other than a blank follows a closing quote.
 /// - [`LineError::Memory`] if an allocation fails.
 pub fn words_of(alloc: Global, line: &[u8]) -> Result<Vec<Vec<u8>>, LineError>
     ensures words { IfOk result (λ words. AreWords (texts_of words.items) line.now) }
@@ -312,7 +321,7 @@ pub fn words_of(alloc: Global, line: &[u8]) -> Result<Vec<Vec<u8>>, LineError>
         (words : List (List ℕ)) → AreWords words line.now → ⊥) }
 {
     let mut words = Vec::new(alloc);
-    let mut rest = without_spaces(line);
+    let mut rest = without_blanks(line);
     while !rest.is_empty() {
         let at = line.len().saturating_sub(rest.len());
         let mut word = Vec::new(alloc);
@@ -333,7 +342,7 @@ pub fn words_of(alloc: Global, line: &[u8]) -> Result<Vec<Vec<u8>>, LineError>
         if let Err(error) = push_word(&mut words, word) {
             return Err(error);
         }
-        rest = without_spaces(after);
+        rest = without_blanks(after);
     }
     Ok(words)
 }

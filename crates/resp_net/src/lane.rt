@@ -1,6 +1,6 @@
 //! One direction of a forwarded connection.
 
-ghost use Rattle.std.specs.Prelude.{◌<◌, length};
+ghost use Rattle.std.specs.Prelude.{◌≡◌, ◌≢◌, ◌⊎◌, ◌||◌, ◌↔◌, ◌<◌, ◌≤◌, [], IsTrue, Some, false, length, take, true};
 
 use crate::non_blocking::{Input, Output};
 use crate::service::Next;
@@ -8,6 +8,7 @@ use crate::stream::Stream;
 use crate::way::{Visited, Way};
 use resp_io::device::Device;
 use std::alloc::Global;
+use std::marker::Model;
 use std::net::Shutdown;
 
 /// The maximum number of bytes of one read.
@@ -36,6 +37,14 @@ pub struct Lane {
     has_ended: bool,
 }
 
+impl Model for Lane {
+    ghost use Rattle.resp_net.specs.Lanes.{LaneState};
+
+    ghost Value = { LaneState };
+
+    ghost view = { λ l. record { waiting = l.way.waiting; has_ended = l.has_ended } };
+}
+
 /// What a visit of a lane has done.
 #[derive(Clone, Copy)]
 pub struct Forwarded {
@@ -49,8 +58,12 @@ pub struct Forwarded {
 }
 
 impl Lane {
+    ghost use Rattle.resp_net.specs.Lanes.{Forwards};
+
     /// Returns a lane that has forwarded nothing. Does not allocate.
-    pub fn new(alloc: Global) -> Lane {
+    pub fn new(alloc: Global) -> Lane
+        ensures { result ≡ record { waiting = []; has_ended = false } }
+    {
         Lane {
             way: Way::new(alloc),
             has_ended: false,
@@ -58,25 +71,40 @@ impl Lane {
     }
 
     /// Returns whether the sending side has ended.
-    pub fn has_ended(&self) -> bool {
+    pub fn has_ended(&self) -> bool
+        ensures { result ≡ self.now.has_ended }
+    {
         self.has_ended
     }
 
     /// Returns whether bytes that were read wait to be written.
-    pub fn waits(&self) -> bool {
+    pub fn waits(&self) -> bool
+        ensures { IsTrue result ↔ (0 < length self.now.waiting) }
+    {
         self.way.waits()
     }
 
     /// Ends the lane. The receiving side is told that no more bytes come.
-    pub fn end(&mut self, to: &Stream) {
+    pub fn end(&mut self, to: &Stream)
+        ensures { self.new ≡ record self.old { has_ended = true } }
+    {
         if !self.has_ended {
             self.has_ended = true;
             let _ = to.shutdown(Shutdown::Write);
         }
     }
 
+    /// Ends the lane if `ends` is true.
+    fn end_if(&mut self, ends: bool, to: &Stream)
+        ensures { self.new ≡ record self.old { has_ended = self.old.has_ended || ends } }
+    {
+        if ends {
+            self.end(to);
+        }
+    }
+
     /// Visits the lane once, with at most one read into the buffer and one write. `is_at_end` says whether
-    /// the input may have ended.
+    /// the input may have ended. The receiving side is told of the end once no bytes wait.
     pub fn visit(
         &mut self,
         from: &Stream,
@@ -85,6 +113,13 @@ impl Lane {
         buffer: &mut [u8],
     ) -> Forwarded
         requires { 0 < length buffer.old }
+        ensures forwards { result.progress ≢ Progress.Failed →
+            Forwards (take result.count buffer.new) self.old self.new }
+        ensures within_buffer { result.count ≤ length buffer.new }
+        ensures nothing_read { 0 < length self.old.waiting → result.count ≡ 0 }
+        ensures ended { self.old.has_ended ≡ true → (self.new ≡ self.old) × (result.count ≡ 0) }
+        ensures told { self.new.has_ended ≡ true → self.old.has_ended ≡ false →
+            self.old.waiting ≡ [] }
     {
         self.visit_within(from, to, is_at_end, usize::MAX, buffer)
     }
@@ -100,6 +135,13 @@ impl Lane {
         buffer: &mut [u8],
     ) -> Forwarded
         requires { 0 < length buffer.old }
+        ensures forwards { result.progress ≢ Progress.Failed →
+            Forwards (take result.count buffer.new) self.old self.new }
+        ensures within_buffer { result.count ≤ length buffer.new }
+        ensures nothing_read { 0 < length self.old.waiting → result.count ≡ 0 }
+        ensures ended { self.old.has_ended ≡ true → (self.new ≡ self.old) × (result.count ≡ 0) }
+        ensures told { self.new.has_ended ≡ true → self.old.has_ended ≡ false →
+            self.old.waiting ≡ [] }
     {
         if self.has_ended {
             return Forwarded {
@@ -112,29 +154,36 @@ impl Lane {
         let mut reader = Device::new(Input::new(from, is_at_end));
         let mut writer = Device::new(Output::within(most, to));
         let (count, visited) = self.way.visit(&mut reader, &mut writer, buffer);
+        self.end_if(visited == Visited::Ended, to);
         let would_wait = reader.into_inner().would_wait();
         let writer = writer.into_inner();
-        let progress = match visited {
-            Visited::Onward | Visited::NotRead if would_wait => Progress::Waits,
-            Visited::Onward => Progress::MayGoOn,
-            Visited::NotRead | Visited::OutOfMemory => Progress::Failed,
-            Visited::NotWritten => after_write(&writer),
-            Visited::Ended => {
-                self.end(to);
-                Progress::Waits
-            }
-        };
         Forwarded {
             count,
             written: writer.written(),
             has_ended: self.has_ended,
-            progress,
+            progress: progress_after(visited, would_wait, &writer),
         }
     }
 }
 
+/// Returns the result of a visit of a lane. `would_wait` says whether the next read would block.
+fn progress_after<W>(visited: Visited, would_wait: bool, writer: &Output<W>) -> Progress
+    ensures lost { visited ≡ Visited.OutOfMemory → result ≡ Progress.Failed }
+{
+    match visited {
+        Visited::Onward | Visited::NotRead if would_wait => Progress::Waits,
+        Visited::Onward => Progress::MayGoOn,
+        Visited::NotRead | Visited::OutOfMemory => Progress::Failed,
+        Visited::NotWritten => after_write(writer),
+        Visited::Ended => Progress::Waits,
+    }
+}
+
 /// Returns the result of a write after which bytes wait.
-pub fn after_write<W>(writer: &Output<W>) -> Progress {
+pub fn after_write<W>(writer: &Output<W>) -> Progress
+    ensures failed { (result ≡ Progress.Failed) ↔ (writer.now.has_failed ≡ true) }
+    ensures waits { result ≡ Progress.Waits → writer.now.would_wait ≡ true }
+{
     if writer.has_failed() {
         Progress::Failed
     } else if writer.would_wait() {
@@ -146,7 +195,14 @@ pub fn after_write<W>(writer: &Output<W>) -> Progress {
 
 /// Returns when a connection is visited next after a visit of both lanes, or `None` if it is visited again
 /// at once. `have_ended` says whether both sides have ended.
-pub fn next_of(one: Progress, other: Progress, have_ended: bool) -> Option<Next> {
+pub fn next_of(one: Progress, other: Progress, have_ended: bool) -> Option<Next>
+    ensures failed { (one ≡ Progress.Failed) ⊎ (other ≡ Progress.Failed) →
+        result ≡ Some Next.Close }
+    ensures closes { result ≡ Some Next.Close → (one ≡ Progress.Failed) ⊎
+        (other ≡ Progress.Failed) ⊎ (have_ended ≡ true) }
+    ensures waits { result ≡ Some Next.Wait → (one ≡ Progress.Waits) ×
+        (other ≡ Progress.Waits) × (have_ended ≡ false) }
+{
     match (one, other) {
         (Progress::Failed, _) | (_, Progress::Failed) => Some(Next::Close),
         (Progress::Waits, Progress::Waits) if have_ended => Some(Next::Close),

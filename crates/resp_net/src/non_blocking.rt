@@ -1,8 +1,11 @@
 //! A non-blocking socket as a reader and a writer that keep the reason of a failure.
 
+ghost use Rattle.std.specs.Prelude.{◌≡◌, [], false, max};
+
 use crate::stream::Stream;
 use std::io;
 use std::io::{ErrorKind, Read, Write};
+use std::marker::Model;
 
 /// Returns whether a pending connection is open.
 ///
@@ -34,15 +37,27 @@ pub struct Input<'a, R> {
     is_dry: bool,
 }
 
+impl<'a, R> Model for Input<'a, R> {
+    ghost use Rattle.resp_net.specs.Outputs.{InputState};
+
+    ghost Value = { InputState };
+
+    ghost view = { λ i. record { first = i.first.now; would_wait = i.is_dry } };
+}
+
 impl<'a, R> Input<'a, R> {
     /// Returns a reader over `inner`, before anything was read. `is_at_end` says whether the input
     /// may have ended.
-    pub fn new(inner: R, is_at_end: bool) -> Self {
+    pub fn new(inner: R, is_at_end: bool) -> Self
+        ensures { result ≡ record { first = []; would_wait = false } }
+    {
         Input::after(&[], inner, is_at_end)
     }
 
     /// Returns a reader that returns `first` and then the bytes of `inner`.
-    pub fn after(first: &'a [u8], inner: R, is_at_end: bool) -> Self {
+    pub fn after(first: &'a [u8], inner: R, is_at_end: bool) -> Self
+        ensures { result ≡ record { first = first.now; would_wait = false } }
+    {
         Input {
             first,
             inner,
@@ -52,12 +67,16 @@ impl<'a, R> Input<'a, R> {
     }
 
     /// Returns the bytes that come before those of the inner reader and were not read.
-    pub fn first(&self) -> &'a [u8] {
+    pub fn first(&self) -> &'a [u8]
+        ensures { result.now ≡ self.now.first }
+    {
         self.first
     }
 
     /// Returns whether the next read would block.
-    pub fn would_wait(&self) -> bool {
+    pub fn would_wait(&self) -> bool
+        ensures { result ≡ self.now.would_wait }
+    {
         self.is_dry
     }
 }
@@ -95,14 +114,34 @@ pub struct Output<W> {
     has_failed: bool,
 }
 
+impl<W> Model for Output<W> {
+    ghost use Rattle.resp_net.specs.Outputs.{OutputState};
+
+    ghost Value = { OutputState };
+
+    ghost view = { λ o. record {
+      most = o.most;
+      written = o.written;
+      would_wait = o.is_full;
+      has_failed = o.has_failed;
+    } };
+}
+
 impl<W> Output<W> {
     /// Returns a writer over `inner`, before anything was written.
-    pub fn new(inner: W) -> Self {
+    pub fn new(inner: W) -> Self
+        ensures nothing_written { result.written ≡ 0 }
+        ensures not_failed { (result.would_wait ≡ false) × (result.has_failed ≡ false) }
+    {
         Output::within(usize::MAX, inner)
     }
 
     /// Returns a writer over `inner` that writes at most `most` bytes at once, and at least one.
-    pub fn within(most: usize, inner: W) -> Self {
+    pub(crate) fn within(most: usize, inner: W) -> Self
+        ensures most { result.most ≡ max most 1 }
+        ensures nothing_written { result.written ≡ 0 }
+        ensures not_failed { (result.would_wait ≡ false) × (result.has_failed ≡ false) }
+    {
         Output {
             inner,
             most: most.max(1),
@@ -113,17 +152,23 @@ impl<W> Output<W> {
     }
 
     /// Returns the number of bytes that the last write has written.
-    pub fn written(&self) -> usize {
+    pub(crate) fn written(&self) -> usize
+        ensures { result ≡ self.now.written }
+    {
         self.written
     }
 
     /// Returns whether the last write failed for another reason, or wrote no byte.
-    pub fn has_failed(&self) -> bool {
+    pub fn has_failed(&self) -> bool
+        ensures { result ≡ self.now.has_failed }
+    {
         self.has_failed
     }
 
     /// Returns whether the last write failed because it would block.
-    pub fn would_wait(&self) -> bool {
+    pub fn would_wait(&self) -> bool
+        ensures { result ≡ self.now.would_wait }
+    {
         self.is_full
     }
 }

@@ -1,10 +1,11 @@
 //! The pieces in which a client gets bytes.
 
-ghost use Rattle.std.specs.Prelude.{◌<◌};
+ghost use Rattle.std.specs.Prelude.{◌≡◌, ◌<◌, None, IfSome, IsSome, false, true};
 
 use crate::cutter::{Cut, Cutter};
 use crate::deadlines::Deadlines;
 use crate::service::Next;
+use std::marker::Model;
 use std::rt::Clock;
 use std::time::Duration;
 
@@ -30,9 +31,20 @@ enum Pause {
     Until(Duration),
 }
 
+impl Model for Pieces {
+    ghost use Rattle.resp_net.specs.Pieces.{PiecesState, is_paused};
+
+    ghost Value = { PiecesState };
+
+    ghost view = { λ p. record { cut = p.cutter; are_paused = is_paused p.pause } };
+}
+
 impl Pieces {
     /// Returns the pieces of a client to which nothing was written.
-    pub fn new(cut: Option<Cut>) -> Self {
+    pub fn new(cut: Option<Cut>) -> Self
+        ensures uncut { cut ≡ None → result.cut ≡ None }
+        ensures not_paused { result.are_paused ≡ false }
+    {
         Pieces {
             cutter: cut.map(|cut| Cutter::new(cut)),
             pause: Pause::Over,
@@ -41,7 +53,8 @@ impl Pieces {
 
     /// Returns the maximum number of bytes of the next piece.
     pub fn most(&self) -> usize
-        ensures { 0 < result }
+        ensures some { 0 < result }
+        ensures up_to_the_cut { IfSome self.now.cut (λ cut. result ≡ cut.left) }
     {
         match &self.cutter {
             Some(cutter) => cutter.left(),
@@ -50,12 +63,18 @@ impl Pieces {
     }
 
     /// Returns whether nothing is written to the client.
-    pub fn are_paused(&self) -> bool {
+    pub fn are_paused(&self) -> bool
+        ensures { result ≡ self.now.are_paused }
+    {
         !matches!(self.pause, Pause::Over)
     }
 
     /// Notes that this many bytes were written to the client. If they are a piece, a pause begins.
-    pub fn note_written(&mut self, count: usize) {
+    pub fn note_written(&mut self, count: usize)
+        ensures uncut { self.old.cut ≡ None → self.new ≡ self.old }
+        ensures nothing_written { count ≡ 0 → self.new ≡ self.old }
+        ensures paused { IsSome self.old.cut → 0 < count → self.new.are_paused ≡ true }
+    {
         if let Some(cutter) = &mut self.cutter {
             if count > 0 {
                 cutter.advance(count);
@@ -65,7 +84,10 @@ impl Pieces {
     }
 
     /// Ends the pause if its time has come.
-    pub fn look(&mut self, now: Duration) {
+    pub fn look(&mut self, now: Duration)
+        ensures same_cut { self.new.cut ≡ self.old.cut }
+        ensures no_new_pause { self.new.are_paused ≡ true → self.old.are_paused ≡ true }
+    {
         if let Pause::Until(until) = self.pause {
             if until <= now {
                 self.pause = Pause::Over;
@@ -83,7 +105,11 @@ impl Pieces {
         place: usize,
         pauses: &mut Deadlines,
         next: Next,
-    ) -> Next {
+    ) -> Next
+        ensures same_cut { self.new.cut ≡ self.old.cut }
+        ensures no_new_pause { self.new.are_paused ≡ true → self.old.are_paused ≡ true }
+        ensures not_paused { self.old.are_paused ≡ false → result ≡ next }
+    {
         if !matches!(self.pause, Pause::Begun) {
             return next;
         }

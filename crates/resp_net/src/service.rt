@@ -25,7 +25,7 @@ pub fn token_of(number: usize) -> Token {
 }
 
 /// Returns the number of a socket of a service besides its first, given its token.
-pub fn number_of(token: usize) -> Option<usize> {
+pub(crate) fn number_of(token: usize) -> Option<usize> {
     let number = (usize::MAX - 1).saturating_sub(token);
     if number == 0 || number > FURTHER {
         None

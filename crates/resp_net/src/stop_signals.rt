@@ -33,7 +33,7 @@ impl StopSignals {
     }
 
     /// Returns whether one of the signals waits. It looks at most five times a second.
-    pub fn have_come(&mut self, files: &(impl Files + Alloc), now: Duration) -> bool {
+    pub(crate) fn have_come(&mut self, files: &(impl Files + Alloc), now: Duration) -> bool {
         if !self.are_blocked || now < self.next {
             return false;
         }

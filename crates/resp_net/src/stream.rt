@@ -37,7 +37,7 @@ impl Stream {
     /// # Errors
     ///
     /// The error of the system.
-    pub fn send_at_once(&self) -> io::Result<()> {
+    pub(crate) fn send_at_once(&self) -> io::Result<()> {
         match self {
             Stream::Tcp(stream) => stream.set_nodelay(true),
             Stream::Unix(_) => Ok(()),
@@ -64,7 +64,7 @@ impl Stream {
     /// # Errors
     ///
     /// The error of the system if it can't be read.
-    pub fn take_error(&self) -> io::Result<Option<io::Error>> {
+    pub(crate) fn take_error(&self) -> io::Result<Option<io::Error>> {
         match self {
             Stream::Tcp(stream) => stream.take_error(),
             Stream::Unix(stream) => stream.take_error(),

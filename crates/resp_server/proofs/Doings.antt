@@ -13,7 +13,7 @@ use Rattle.resp_value.specs.Spellings.{IsSpelling}
 use Rattle.resp_value.specs.declared.version.Version.TheVariants.{Two}
 use Rattle.resp_scan.specs.Whole.{BeginsWith}
 use Rattle.resp_session.specs.Operations.{Operation}
-use Rattle.resp_session.specs.Stores.{Effect, Store, effect_of}
+use Rattle.resp_session.specs.Stores.{Store, effect_of}
 use Rattle.resp_server.specs.Running.{HasEffect, IsAsBefore}
 use Rattle.resp_server.specs.declared.database.Database.{Database}
 use Rattle.resp_server.specs.Deeds.{Request, asked_by}
@@ -36,6 +36,7 @@ stores_kept (deed.SetName name) of stores c = refl
 stores_kept deed.GetName of stores c = refl
 stores_kept deed.Id of stores c = refl
 stores_kept deed.SetInfo of stores c = refl
+stores_kept (deed.Hello version name) of stores c = refl
 stores_kept deed.Quit of stores c = refl
 stores_kept (deed.Refused refusal) of stores c = refl
 stores_kept (deed.UnknownSubcommand word) of stores c = refl
@@ -97,6 +98,7 @@ of_others (deed.SetName name) exists size flush all = tt
 of_others deed.GetName exists size flush all = tt
 of_others deed.Id exists size flush all = tt
 of_others deed.SetInfo exists size flush all = tt
+of_others (deed.Hello version name) exists size flush all = tt
 of_others deed.Quit exists size flush all = tt
 of_others (deed.Refused refusal) exists size flush all = tt
 of_others (deed.UnknownSubcommand word) exists size flush all = tt

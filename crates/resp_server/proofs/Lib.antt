@@ -12,6 +12,7 @@ pub mod WholeTurns
 pub mod AnsweredPieces
 pub mod AnsweredHubs
 pub mod Sending
+pub mod HelloOptions
 pub mod Lists
 pub mod Doings
 pub mod Runs

@@ -1,5 +1,8 @@
 -- What a command asks for, given its name and the words after it.
-use Rattle.std.specs.Prelude.{◌≡◌, ℕ, true, false, Result, Ok, Err, List, [], ◌∷◌, ◌++◌, if◌then◌else◌, codes}
+use Rattle.std.specs.Prelude.{◌≡◌, ℕ, true, false, not, ◌&&◌, nat_lt, length, Option, None, Some, option_map, Result, Ok, Err, List, [], ◌∷◌, ◌++◌, if◌then◌else◌, codes}
+use Rattle.std.specs.Str.{bytes_eq}
+use Rattle.resp_value.specs.declared.version.Version.{Version}
+use Rattle.resp_value.specs.declared.version.Version.TheVariants.{Two, Three}
 use Rattle.resp_session.specs.Operations.{Operation, is_name, operation_of}
 use Rattle.resp_server.specs.Indexes.{IsIndexed}
 use Rattle.resp_server.specs.Names.{is_client_name, shown_word}
@@ -7,7 +10,7 @@ use Rattle.resp_server.specs.Refusals.{refusal_text}
 use Rattle.resp_server.specs.declared.databases.deed.Deed.{Deed}
 use Rattle.resp_server.specs.declared.databases.deed.Deed.TheVariants as deed
 use Rattle.resp_server.specs.declared.refusal.Refusal.{Refusal}
-use Rattle.resp_server.specs.declared.refusal.Refusal.TheVariants.{WrongNumber, Syntax, BadName}
+use Rattle.resp_server.specs.declared.refusal.Refusal.TheVariants.{WrongNumber, Syntax, NoProtocol, BadName, WrongPassword}
 use Rattle.resp_server.specs.declared.refusal.Verb.{Verb}
 use Rattle.resp_server.specs.declared.refusal.Verb.TheVariants as verb
 
@@ -31,6 +34,9 @@ pub data Asked : Type 0 where
   Id : Asked
   -- nothing, but the reply OK
   SetInfo : Asked
+  -- the description of the client in this version, which is that of later replies, and this name for the client if there
+  -- is one
+  Hello : Version → Option (List ℕ) → Asked
   -- the end of the connection
   Quit : Asked
   -- the command has an error reply with this text
@@ -51,6 +57,7 @@ asked_by (deed.SetName name) = SetName name.now
 asked_by deed.GetName = GetName
 asked_by deed.Id = Id
 asked_by deed.SetInfo = SetInfo
+asked_by (deed.Hello version name) = Hello version (option_map (λ n. n.now) name)
 asked_by deed.Quit = Quit
 asked_by (deed.Refused refusal) = Denied (refusal_text refusal)
 asked_by (deed.UnknownSubcommand word) = Denied (unknown_text word.now)
@@ -96,6 +103,27 @@ client_asks (subcommand ∷ words) =
     if is_name (codes "setinfo") subcommand then set_info_asks words else
     Denied (unknown_text subcommand)
 
+-- HELLO of this version with options, after those that give the client this name. AUTH has a user and a password. The
+-- user is `default`, whose password is not checked.
+abbrev pub options_ask : Version → Option (List ℕ) → List (List ℕ) → Asked
+options_ask version name [] = Hello version name
+options_ask version name (option ∷ []) = Denied (refusal_text Syntax)
+options_ask version name (option ∷ word ∷ []) =
+    if not (is_name (codes "setname") option) then Denied (refusal_text Syntax) else
+    if is_client_name word then Hello version (Some word) else Denied (refusal_text BadName)
+options_ask version name (option ∷ word ∷ next ∷ words) =
+    if is_name (codes "setname") option then
+    (if is_client_name word then options_ask version (Some word) (next ∷ words) else Denied (refusal_text BadName))
+    else if not (is_name (codes "auth") option) then Denied (refusal_text Syntax) else
+    if bytes_eq word (codes "default") then options_ask version name words else Denied (refusal_text WrongPassword)
+
+-- HELLO with a word for the version, and options
+abbrev pub hello_asks : List (List ℕ) → Asked
+hello_asks [] = wrong_number verb.Hello
+hello_asks (word ∷ options) =
+    if bytes_eq word (codes "2") then options_ask Two None options else
+    if bytes_eq word (codes "3") then options_ask Three None options else Denied (refusal_text NoProtocol)
+
 -- SELECT of this number, or its error
 abbrev pub index_asks : Result ℕ Refusal → Asked
 index_asks (Ok index) = Select index
@@ -116,6 +144,7 @@ asks name words =
     if is_name (codes "flushall") name then flush_asks FlushAll words else
     if is_name (codes "client") name then client_asks words else
     if is_name (codes "quit") name then Quit else
+    if is_name (codes "hello") name && nat_lt 1 (length words) then hello_asks words else
     Request (operation_of name words)
 
 -- what a command of this name, in upper, lower or mixed case, asks for with these words after it

@@ -1,6 +1,5 @@
 -- The state of a client, and the effect of a command on a server and on its client.
 use Rattle.std.specs.Prelude.{◌≡◌, ℕ, List, ◌∷◌, ◌++◌}
-use Rattle.resp_value.specs.Bounds.{Bounds}
 use Rattle.resp_value.specs.Canonical.{canonical_text}
 use Rattle.resp_value.specs.Rules.{rules_under}
 use Rattle.resp_value.specs.Spellings.{IsSpelling}

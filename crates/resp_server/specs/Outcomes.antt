@@ -2,9 +2,9 @@
 use Rattle.std.specs.Prelude.{ℕ, Bool, true, List, [], ◌∷◌, length, map, filter, set, is_some, unwrap_or, slice_get, codes}
 use Rattle.resp_value.specs.Data.{Datum}
 use Rattle.resp_value.specs.declared.version.Version.{Version}
-use Rattle.resp_session.specs.Replies.{simple_string, error, bulk_string, natural, null}
+use Rattle.resp_session.specs.Replies.{simple_string, error, bulk_string, hello_reply, natural, null}
 use Rattle.resp_session.specs.Stores.{Store, Effect, effect_of, value_at}
-use Rattle.resp_server.specs.Deeds.{Asked, Request, Select, Exists, DbSize, FlushDb, FlushAll, SetName, GetName, Id, SetInfo, Quit, Denied}
+use Rattle.resp_server.specs.Deeds.{Asked, Request, Select, Exists, DbSize, FlushDb, FlushAll, SetName, GetName, Id, SetInfo, Hello, Quit, Denied}
 
 -- what a command depends on and changes of its client
 pub record Standing : Type 0 where
@@ -68,5 +68,7 @@ outcome_of stores c (SetName name) = with_client stores (record c { name = name 
 outcome_of stores c GetName = with_client stores c (name_reply c.name)
 outcome_of stores c Id = with_client stores c (natural c.id)
 outcome_of stores c SetInfo = with_client stores c ok_reply
+outcome_of stores c (Hello version name) =
+    with_client stores (record c { version = version; name = unwrap_or name c.name }) (hello_reply version c.id)
 outcome_of stores c Quit = with_client stores (record c { closing = true }) ok_reply
 outcome_of stores c (Denied text) = with_client stores c (error text)

@@ -1,7 +1,7 @@
 -- The error replies to commands.
 use Rattle.std.specs.Prelude.{ℕ, List, ◌++◌, codes}
 use Rattle.resp_server.specs.declared.refusal.Refusal.{Refusal}
-use Rattle.resp_server.specs.declared.refusal.Refusal.TheVariants.{WrongNumber, Syntax, NoProtocol, UnknownCommand, NoInteger, FarIndex, NoDatabase, BadName}
+use Rattle.resp_server.specs.declared.refusal.Refusal.TheVariants.{WrongNumber, Syntax, NoProtocol, UnknownCommand, NoInteger, FarIndex, NoDatabase, BadName, WrongPassword}
 use Rattle.resp_server.specs.declared.refusal.Verb.{Verb}
 use Rattle.resp_server.specs.declared.refusal.Verb.TheVariants as verb
 
@@ -32,3 +32,4 @@ refusal_text NoInteger = codes "ERR value is not an integer or out of range"
 refusal_text FarIndex = codes "ERR value is out of range, value must between -2147483648 and 2147483647"
 refusal_text NoDatabase = codes "ERR DB index is out of range"
 refusal_text BadName = codes "ERR Client names cannot contain spaces, newlines or special characters."
+refusal_text WrongPassword = codes "WRONGPASS invalid username-password pair or user is disabled."

@@ -11,6 +11,7 @@ ghost use Rattle.resp_value.specs.declared.version.Version.TheVariants.{Two};
 pub(crate) mod client;
 mod deed;
 mod index;
+mod options;
 mod perform;
 mod rejection;
 mod reply;

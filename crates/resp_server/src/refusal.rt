@@ -59,6 +59,8 @@ pub(crate) enum Refusal {
     NoDatabase,
     /// A name of a client has a byte that is not printable, or a space.
     BadName,
+    /// A user other than `default` gives a password.
+    WrongPassword,
 }
 
 impl Refusal {
@@ -77,6 +79,8 @@ impl Refusal {
             Refusal::NoDatabase => b"-ERR DB index is out of range\r\n",
             Refusal::BadName =>
                 b"-ERR Client names cannot contain spaces, newlines or special characters.\r\n",
+            Refusal::WrongPassword =>
+                b"-WRONGPASS invalid username-password pair or user is disabled.\r\n",
         }
     }
 }

@@ -1,8 +1,8 @@
 -- The first bytes of a name that is made from words.
-use Rattle.std.proofs.Common.{◌≡◌, ℕ, ◌<◌, ◌≤◌, ◌+◌, Bool, true, List, [], ◌∷◌, ◌++◌, length, take, drop, map, refl, ap, zero, suc, sym, ◌∙◌, arith, slice_index_or}
+use Rattle.std.proofs.Common.{◌≡◌, ℕ, ◌<◌, Bool, true, List, [], ◌∷◌, ◌++◌, length, take, drop, map, refl, ap, zero, suc, sym, ◌∙◌, arith, slice_index_or}
 use Rattle.std.proofs.lemmas.List.{append_assoc, take-append-le, take_all}
 use Rattle.std.specs.Prelude.{if◌then◌else◌}
-use Rattle.resp_stats.specs.Names.{full_name, has_subcommands, name_byte, subcommand_name, table_name}
+use Rattle.resp_stats.specs.Names.{has_subcommands, name_byte, table_name}
 
 -- what does not fit is dropped at once or at the end
 pub take-append-take : (n : ℕ) (a b : List ℕ) → take n (take n a ++ b) ≡ take n (a ++ b)

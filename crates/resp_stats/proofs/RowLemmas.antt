@@ -1,9 +1,9 @@
 -- Rows at their places.
-use Rattle.std.proofs.Common.{◌≡◌, ◌≢◌, ℕ, ◌<◌, Bool, true, List, [], ◌∷◌, ◌++◌, length, set, refl, ap, zero, suc, sym, subst, arith, length-set}
-use Rattle.std.specs.Prelude.{slice_get, Option, None, Some, IsSomeAnd}
+use Rattle.std.proofs.Common.{◌≡◌, ◌≢◌, ℕ, ◌<◌, true, List, [], ◌∷◌, ◌++◌, length, set, refl, ap, zero, suc, sym, subst, arith, length-set}
+use Rattle.std.specs.Prelude.{slice_get, Option, Some, IsSomeAnd}
 use Rattle.std.specs.Str.{bytes_eq}
 use Rattle.std.proofs.lemmas.Bool.Decides.{nat_tests}
-use Rattle.resp_stats.specs.Rows.{AddsCall, CountsCall, has_name, row_has}
+use Rattle.resp_stats.specs.Rows.{AddsCall, CountsCall, has_name}
 use Rattle.resp_stats.specs.declared.row.Call.{Call}
 use Rattle.resp_stats.specs.declared.row.CommandRow.{CommandRow}
 

@@ -73,17 +73,17 @@ impl Counts {
 
     /// Returns the place of the row of a name. If there is no row, one is added. The place is 0 if
     /// an allocation fails or there are 256 names already.
-    pub fn place_of(&mut self, name: Name) -> usize
+    pub fn place_of(&mut self, name: &Name) -> usize
         ensures within { result < length self.new.rows.items }
-        ensures named { 0 < result → has_name name.text.items self.new.rows.items result ≡ true }
-        ensures rows { MayAddRow name.text.items self.old.rows.items self.new.rows.items }
-        ensures found { (place : ℕ) → 0 < place → has_name name.text.items self.old.rows.items place ≡ true →
+        ensures named { 0 < result → has_name name.now.text.items self.new.rows.items result ≡ true }
+        ensures rows { MayAddRow name.now.text.items self.old.rows.items self.new.rows.items }
+        ensures found { (place : ℕ) → 0 < place → has_name name.now.text.items self.old.rows.items place ≡ true →
             (0 < result) × (self.new.rows.items ≡ self.old.rows.items) }
         ensures added { result ≡ 0 → self.new.rows.items ≡ self.old.rows.items }
     {
-        let slot = slot_of(&name);
+        let slot = slot_of(name);
         let recent = self.recent[slot];
-        if self.has_name(recent, &name) {
+        if self.has_name(recent, name) {
             return recent;
         }
         let place = self.find_or_add(name);
@@ -107,19 +107,19 @@ impl Counts {
     }
 
     /// Returns the place of the row of a name, after looking through all rows.
-    fn find_or_add(&mut self, name: Name) -> usize
+    fn find_or_add(&mut self, name: &Name) -> usize
         ensures within { result < length self.new.rows.items }
-        ensures named { 0 < result → has_name name.text.items self.new.rows.items result ≡ true }
-        ensures rows { MayAddRow name.text.items self.old.rows.items self.new.rows.items }
-        ensures found { (place : ℕ) → 0 < place → has_name name.text.items self.old.rows.items place ≡ true →
+        ensures named { 0 < result → has_name name.now.text.items self.new.rows.items result ≡ true }
+        ensures rows { MayAddRow name.now.text.items self.old.rows.items self.new.rows.items }
+        ensures found { (place : ℕ) → 0 < place → has_name name.now.text.items self.old.rows.items place ≡ true →
             (0 < result) × (self.new.rows.items ≡ self.old.rows.items) }
         ensures added { result ≡ 0 → self.new.rows.items ≡ self.old.rows.items }
     {
-        if let Some(place) = self.find(&name) {
+        if let Some(place) = self.find(name) {
             return place;
         }
         let place = self.rows.len();
-        if place >= MOST_ROWS || self.rows.push(CommandRow::new(name)).is_err() {
+        if place >= MOST_ROWS || self.rows.push(CommandRow::new(name.copied())).is_err() {
             return 0;
         }
         place

@@ -87,6 +87,15 @@ impl Name {
         name
     }
 
+    /// Returns a copy of the name.
+    pub(crate) fn copied(&self) -> Name
+        ensures { result.text.items ≡ self.now.text.items }
+    {
+        let mut name = Name::new();
+        let _ = name.text.try_extend_from_slice(self.text.as_slice());
+        name
+    }
+
     /// Returns the bytes of the name.
     pub fn as_bytes(&self) -> &[u8]
         ensures { result.now ≡ self.now.text.items }

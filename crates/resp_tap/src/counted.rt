@@ -5,10 +5,9 @@ ghost use Rattle.resp_print.specs.Printed.{Prints};
 ghost use Rattle.resp_tap.specs.Connections.{IsNewConnection};
 ghost use Rattle.resp_tap.specs.CountedTaps.{counted_text};
 ghost use Rattle.resp_tap.specs.Filters.{kept_by};
-ghost use Rattle.resp_tap.specs.Counting.{AnswersCall, CountsBy, IsAsked, IsCounted, IsPlaceFor, is_error};
+ghost use Rattle.resp_tap.specs.Counting.{AnswersCall, CountsBy, IsAsked, IsCounted, IsNameFor, is_error};
 ghost use Rattle.resp_tap.specs.Keeping.{IsNew, new_words};
 ghost use Rattle.resp_stats.specs.Names.{table_name};
-ghost use Rattle.resp_stats.specs.Rows.{MayAddRow};
 ghost use Rattle.resp_tap.specs.Texts.{levels_of};
 
 use crate::connection::{KeepingTap, Next, follow};
@@ -22,15 +21,15 @@ use crate::watch::{Given, Side, Watched, Watching, stamp_of, waited_of};
 use resp_io::device::Sink;
 use resp_print::print_error::PrintError;
 use resp_session::words::Words;
-use resp_stats::{Call, Counts, name_of};
+use resp_stats::{Call, Counts, Name, name_of};
 use resp_value::limits::Limits;
 use std::alloc::Global;
 
 /// What is kept to count a command that waits for its reply.
-#[derive(Clone, Copy, Debug, PartialEq, Eq)]
+#[derive(Debug, Drop)]
 pub struct Asked {
-    /// The place of its row, if it is counted.
-    pub(crate) place: Option<usize>,
+    /// Its name in the table, if it is counted when its reply is let through.
+    pub(crate) name: Option<Name>,
     /// The number of its bytes.
     pub(crate) bytes: u64,
 }
@@ -56,23 +55,22 @@ fn is_error(seen: &Seen) -> bool
     }
 }
 
-/// Counts a command that has its reply, if the filter lets the reply through.
-fn answer(counts: &mut Counts, filter: &Filter, asked: Option<Asked>, heard: Heard)
-    ensures { AnswersCall filter.now asked heard counts.old.rows.items counts.new.rows.items }
+/// Counts a command that has its reply, if the filter lets the reply through. A command that is not
+/// counted gets no row.
+fn answer(counts: &mut Counts, filter: &Filter, asked: &Asked, heard: Heard)
+    ensures { AnswersCall filter.now (Some asked.now) heard counts.old.rows.items counts.new.rows.items }
 {
-    let Some(Asked { place, bytes }) = asked else {
+    let Some(name) = &asked.name else {
         return;
     };
-    let Some(place) = place else {
-        return;
-    };
-    if place < counts.rows().len() && filter.keeps_answer(heard.is_error, heard.waited) {
+    if filter.keeps_answer(heard.is_error, heard.waited) {
         let call = Call {
-            sent: bytes,
+            sent: asked.bytes,
             received: heard.bytes,
             is_error: heard.is_error,
             waited: heard.waited,
         };
+        let place = counts.place_of(name);
         counts.count(place, call);
     }
 }
@@ -103,7 +101,7 @@ impl CountedTap {
     /// that waits.
     fn count(&self, counts: &mut Counts, client: u64, next: &Next, heard: Heard) -> Option<Asked>
         ensures asked { IfSome result (IsNew (IsAsked self.now.filter client heard.bytes
-            next.now.before self.now.kept.items counts.new.rows.items)
+            next.now.before self.now.kept.items)
             (new_words (nat_lt next.now.before next.now.left) next.now.step.seen)) }
         ensures rows { CountsBy self.now.filter
             (new_words (nat_lt next.now.before next.now.left) next.now.step.seen) heard
@@ -117,14 +115,15 @@ impl CountedTap {
                     return None;
                 }
                 let counted = is_counted(&self.filter, client, words);
-                let place = place_for(counts, counted, words);
+                let name = name_for(counted, words);
                 let bytes = heard.bytes;
-                Some(Asked { place, bytes })
+                Some(Asked { name, bytes })
             }
             _ => {
                 if next.left < next.before {
-                    let asked = self.kept.get(next.at).copied();
-                    answer(counts, &self.filter, asked, heard);
+                    if let Some(asked) = self.kept.get(next.at) {
+                        answer(counts, &self.filter, asked, heard);
+                    }
                 }
                 None
             }
@@ -139,16 +138,11 @@ fn is_counted(filter: &Filter, client: u64, words: &Words) -> bool
     filter.keeps_client(client) && filter.keeps_words(words)
 }
 
-/// Returns the place of the row of a command, if the command is counted.
-fn place_for(counts: &mut Counts, counted: bool, words: &Words) -> Option<usize>
-    ensures rows { MayAddRow (table_name words.now) counts.old.rows.items counts.new.rows.items }
-    ensures place { IsPlaceFor counted (table_name words.now) counts.new.rows.items result }
+/// Returns the name of a command, if the command is counted.
+fn name_for(counted: bool, words: &Words) -> Option<Name>
+    ensures { IsNameFor counted (table_name words.now) result }
 {
-    if counted {
-        Some(counts.place_of(name_of(words)))
-    } else {
-        None
-    }
+    if counted { Some(name_of(words)) } else { None }
 }
 
 /// Writes the line of a result if it is an error, and the filter lets lines about the client through.

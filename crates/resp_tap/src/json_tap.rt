@@ -70,8 +70,6 @@ impl JsonTap {
             (kept_by filter (Some 1024)) result.connection }
         ensures filter { result.filter ≡ filter }
         ensures nothing_kept { result.kept.items ≡ [] }
-        ensures no_bytes { (result.connection.taken.sent ≡ 0) ×
-            (result.connection.taken.received ≡ 0) }
     {
         KeepingTap::of_connection(alloc, limits, ShownPart::first(SHOWN), filter)
     }

@@ -7,9 +7,11 @@ ghost use Rattle.resp_server.specs.Deeds as asked;
 ghost use Rattle.resp_server.specs.Names.{is_client_name};
 
 use crate::databases::index::index_of;
+use crate::databases::options::hello;
 use crate::refusal::{Refusal, Verb};
 use resp_scan::whole::CommandArguments;
 use resp_session::names::is_name;
+use resp_value::version::Version;
 
 /// What a command asks for.
 #[derive(Drop)]
@@ -32,6 +34,8 @@ pub(crate) enum Deed<'a> {
     Id,
     /// Reply OK, and change nothing.
     SetInfo,
+    /// Change the version, reply with the description of the client, and give it a name if there is one.
+    Hello(Version, Option<&'a [u8]>),
     /// Reply OK, and run no further command of the client.
     Quit,
     /// Reply with an error.
@@ -68,6 +72,8 @@ pub(crate) fn deed_of<'a>(
         Ok(client(arguments))
     } else if is_name(name, b"quit") {
         Ok(Deed::Quit)
+    } else if is_name(name, b"hello") && arguments.len() > 1 {
+        Ok(hello(arguments))
     } else {
         Err(arguments)
     }
@@ -167,7 +173,7 @@ fn set_name(words: CommandArguments<'_>) -> Deed<'_>
 }
 
 /// Returns whether each byte of a name is printable and not a space.
-fn is_client_name(name: &[u8]) -> bool
+pub(crate) fn is_client_name(name: &[u8]) -> bool
     ensures { result ≡ is_client_name name.now }
 {
     for byte in name {

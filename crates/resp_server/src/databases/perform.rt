@@ -1,12 +1,12 @@
 //! Runs a command of a client.
 
-ghost use Rattle.std.specs.Prelude.{◌≡◌, ◌++◌, ◌∷◌, IfErr, IfSome, IsSome, OnErr, OnOk};
+ghost use Rattle.std.specs.Prelude.{◌≡◌, ◌++◌, ◌∷◌, IfErr, IfSome, IsSome, OnErr, OnOk, option_map};
 ghost use Rattle.resp_value.specs.Canonical.{canonical_text};
 ghost use Rattle.resp_value.specs.declared.version.Version.TheVariants.{Two};
 ghost use Rattle.resp_session.specs.Operations.{operation_of};
 ghost use Rattle.resp_session.specs.Replies.{natural};
 ghost use Rattle.resp_frames.specs.Commands.{IsCommand};
-ghost use Rattle.resp_server.specs.Deeds.{DbSize, Exists, Request, asked_by};
+ghost use Rattle.resp_server.specs.Deeds.{DbSize, Exists, Hello, Request, asked_by};
 ghost use Rattle.resp_server.specs.Doing.{HasChanged, HasDone, HasDoneNothing, HasRun, IsOfClient, IsUnchanged, KeepsBegun};
 ghost use Rattle.resp_server.specs.Rejections.{OnRejection};
 ghost use Rattle.resp_server.specs.Running.{FitsWords};
@@ -22,6 +22,7 @@ use bytes::BytesMut;
 use resp_scan::whole;
 use resp_scan::whole::CommandArguments;
 use resp_value::laws::no_spelling_begins_another;
+use resp_value::version::Version;
 use std::alloc::AllocError;
 use std::hash::BuildHasher;
 
@@ -172,6 +173,7 @@ fn change(client: &mut Client, deed: Deed<'_>) -> Result<(), AllocError>
         }
         Deed::GetName => reply_name(&mut client.out, client.version, &client.name),
         Deed::Id => reply::number(&mut client.out, client.id),
+        Deed::Hello(version, name) => greet(client, version, name),
         Deed::Quit => {
             reply_ok(&mut client.out)?;
             client.closing = true;
@@ -181,4 +183,23 @@ fn change(client: &mut Client, deed: Deed<'_>) -> Result<(), AllocError>
         Deed::UnknownSubcommand(word) => reply_unknown(&mut client.out, word),
         _ => reply_ok(&mut client.out),
     }
+}
+
+/// Changes the version of a client, gives it a name if there is one, and queues the reply to HELLO.
+fn greet(client: &mut Client, version: Version, name: Option<&[u8]>) -> Result<(), AllocError>
+    ensures done { OnOk result (HasChanged (Hello version (option_map (λ n. n.now) name.entry))
+        client.old client.new) }
+    ensures failed { OnErr result (IsUnchanged client.old client.new) }
+    ensures same_begun { KeepsBegun client.old client.new }
+{
+    let Some(name) = name else {
+        reply::greeting(&mut client.out, version, client.id)?;
+        client.version = version;
+        return Ok(());
+    };
+    let name = name.to_vec(client.alloc)?;
+    reply::greeting(&mut client.out, version, client.id)?;
+    client.name = name;
+    client.version = version;
+    Ok(())
 }

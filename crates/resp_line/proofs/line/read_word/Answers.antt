@@ -1,5 +1,5 @@
 use Rattle.std.proofs.Common.{rules, ◌≡◌, ◌∷◌, ◌∙◌, ap}
-use Rattle.resp_line.specs.Lines.{EndsWord, quote_byte}
+use Rattle.resp_line.specs.Lines.{quote_byte}
 use Rattle.resp_line.proofs.WordLines.{bare_only, bare_word, ends_bare_word, ends_empty, only_quoted, quoted_none, quoted_only}
 use Rattle.resp_line.proofs.line.read_word.Goals as goal
 

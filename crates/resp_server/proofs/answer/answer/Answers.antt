@@ -5,7 +5,6 @@ use Rattle.resp_session.specs.Answers.{server_rules}
 use Rattle.resp_session.specs.Fitting.{FitsStore}
 use Rattle.resp_server.specs.Answering.{AnswersBytes, IsAnswered, IsReading}
 use Rattle.resp_server.specs.Reading.{ReadsBy}
-use Rattle.resp_server.specs.declared.session.Session.{Session}
 use Rattle.resp_server.proofs.AnsweredPieces.{none_answered, some_used, turn_answered, closed_answered, cut_short}
 use Rattle.resp_server.proofs.answer.answer.Goals as goal
 

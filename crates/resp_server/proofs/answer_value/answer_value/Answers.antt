@@ -2,8 +2,7 @@ use Rattle.std.proofs.Common.{◌∷◌, drop, refl, subst, sym, ap, ◌∙◌}
 use Rattle.resp_value.specs.Spellings.{IsSpelling}
 use Rattle.resp_value.specs.Words.{command_of}
 use Rattle.resp_session.specs.Answers.{server_rules}
-use Rattle.resp_server.specs.declared.session.Session.{Session}
-use Rattle.resp_server.proofs.ValueAnswers.{command_answer, no_command_answer, words_value}
+use Rattle.resp_server.proofs.ValueAnswers.{no_command_answer, words_value}
 use Rattle.resp_server.proofs.answer_value.answer_value.Goals as goal
 
 pub run-requires-clause-words : goal.run-requires-clause-words

@@ -1,4 +1,4 @@
-use Rattle.std.proofs.Common.{rules, ◌≡◌, ◌∙◌, ◌++◌, ◌∷◌, [], ℕ, List, ap, take, map, sym, slice_index_or, true}
+use Rattle.std.proofs.Common.{rules, ◌≡◌, ◌∙◌, ◌++◌, ◌∷◌, [], take, map, sym, slice_index_or, true}
 use Rattle.resp_stats.specs.Names.{has_subcommands, name_byte}
 use Rattle.resp_stats.proofs.NameLemmas.{named_by_two, two_words}
 use Rattle.resp_stats.proofs.name.name_of.Goals as goal

@@ -1,14 +1,12 @@
-use Rattle.std.proofs.Common.{◌≡◌, Some, refl, sym, ap, subst, ◌∙◌}
+use Rattle.std.proofs.Common.{◌≡◌, Some, refl, subst}
 use Rattle.std.specs.Prelude.{set, slice_get}
-use Rattle.std.proofs.Math.ListN.{length-set}
 use Rattle.std.proofs.lemmas.Option.{slice_get_read}
 use Rattle.std.proofs.lemmas.Result.{on_err_weaker, on_ok_weaker}
 use Rattle.resp_session.specs.Operations.{operation_of}
 use Rattle.resp_server.specs.Deeds.{Request}
 use Rattle.resp_server.specs.Doing.{HasDone}
-use Rattle.resp_server.specs.Servers.{IsWithin, ServerState, stores_in}
+use Rattle.resp_server.specs.Servers.{ServerState, stores_in}
 use Rattle.resp_server.proofs.Doings.{done_there, undone_there}
-use Rattle.resp_server.proofs.Lists.{all_at, all_set}
 use Rattle.resp_server.proofs.databases.Databases.pass.Goals as goal
 
 pub returns-clause-done : goal.returns-clause-done

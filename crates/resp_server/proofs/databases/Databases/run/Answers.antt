@@ -1,4 +1,4 @@
-use Rattle.std.proofs.Common.{◌∷◌, [], arith, length, refl, sym, ap, subst, ◌≡◌, ◌∙◌}
+use Rattle.std.proofs.Common.{◌∷◌, [], arith, length, sym, ap, subst, ◌≡◌, ◌∙◌}
 use Rattle.std.proofs.lemmas.Bool.{eqb-true}
 use Rattle.std.proofs.lemmas.Grind.{common_steps}
 use Rattle.std.proofs.lemmas.List.{nil_from_length}

@@ -1,4 +1,4 @@
-use Rattle.std.proofs.Common.{rules, ◌≡◌, ◌∷◌, [], length, arith}
+use Rattle.std.proofs.Common.{rules, ◌≡◌, ◌∷◌, [], length}
 use Rattle.resp_stats.proofs.NameLemmas.{full_take}
 use Rattle.resp_stats.proofs.name.Name.push.Goals as goal
 

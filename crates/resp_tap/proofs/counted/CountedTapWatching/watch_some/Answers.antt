@@ -34,9 +34,9 @@ returns-clause-watches g c =
               of_command = steps.asked;
               delay = c.waited_of.ensures;
             };
-            asked = subst (λ (t : ℕ × ℕ). KeptBy (IsAsked f client next.size t.0 items rows') (new_words (nat_lt t.0 t.1) what)
+            asked = subst (λ (t : ℕ × ℕ). KeptBy (IsAsked f client next.size t.0 items) (new_words (nat_lt t.0 t.1) what)
                 (t.0 - t.1) items c.follow.new.kept.items) (λ i. (steps.before i, steps.left i))
-                (kept_by (IsAsked f client next.size next.before items rows') _ (next.before - next.left)
+                (kept_by (IsAsked f client next.size next.before items) _ (next.before - next.left)
                 c.count-asked.result items c.follow.new.kept.items
                 (λ words has. none_gone next.before next.left (has_words _ _ words has)) c.count-asked.ensures.asked
                 c.follow.ensures);
