@@ -22,6 +22,7 @@ mod name_counts;
 mod part;
 mod probing;
 mod proxy;
+mod reaction;
 mod replies;
 mod route;
 mod server_line;
