@@ -18,7 +18,7 @@ use Rattle.resp_proxy.specs.Terms.{Terms}
 use Rattle.resp_proxy.specs.Unfinished.{HasUnfinished, WhereUnfinished, terms_of}
 use Rattle.resp_proxy.specs.declared.error.ClientError.{ClientError}
 use Rattle.resp_proxy.specs.declared.error.ClientError.TheVariants as error
-use Rattle.resp_proxy.specs.Taking.{IsLeft, SaysLast, Takes, TakesHeld, TakesIn, TakesSome, with_taken}
+use Rattle.resp_proxy.specs.Taking.{IsLastAnswer, IsLeft, SaysLast, Takes, TakesHeld, TakesIn, TakesSome, with_taken}
 use Rattle.resp_proxy.proofs.Refusals.{memory-refused}
 use Rattle.resp_proxy.proofs.Takings.{rest-of, taken-and-rest, takes-nothing, whole-rest}
 
@@ -74,14 +74,14 @@ leaves-put (Some text) terms c c' b after same stays left put leaving = record {
 }
 
 -- what an error leaves is said, or not
-pub said-last : (result : Result (Unit {0}) ClientError) (route : Route) (text : List ℕ) (old new : Board) →
-    OnOk result (WhereRun old (λ p. HasRun new (with_event (Own route.client text) p))) → OnErr result (KeepsRun old new) → SaysLast route old new
-said-last (Ok x) route text old new said kept = record { answer = Some text; run = said }
-said-last (Err e) route text old new said kept = record { answer = None; run = kept }
+pub said-last : (result : Result (Unit {0}) ClientError) (route : Route) (e : ClientError) (text : List ℕ) (old new : Board) →
+    IsLastAnswer route.version e (Some text) → OnOk result (WhereRun old (λ p. HasRun new (with_event (Own route.client text) p))) → OnErr result (KeepsRun old new) → SaysLast route e old new
+said-last (Ok x) route e text old new fits said kept = record { answer = Some text; is_last = fits; run = said }
+said-last (Err cause) route e text old new fits said kept = record { answer = None; is_last = tt; run = kept }
 
 -- after an error the client is shut, and the error is said or not
 pub shut-taken : (terms : Terms) (route : Route) (bytes : List ℕ) (c c' : Client) (e : ClientError) (old mid new : Board) →
-    TakesHeld terms route bytes c (Err e) old mid → SaysLast route mid new → Holds terms c' [] → is_closing c' ≡ true → TakesIn terms route bytes c' (Err e) old new
+    TakesHeld terms route bytes c (Err e) old mid → SaysLast route e mid new → Holds terms c' [] → is_closing c' ≡ true → TakesIn terms route bytes c' (Err e) old new
 shut-taken terms route bytes c c' e old mid new t s none closing = record {
   taken = t.takes.taken;
   after = t.after;
@@ -91,6 +91,7 @@ shut-taken terms route bytes c c' e old mid new t s none closing = record {
   run = λ p passed. s.run (with_taken route t.takes.taken p) (t.takes.run p passed);
   holds = tt;
   refused = t.refused;
+  said = s.is_last;
   shut = (none, closing);
 }
 

@@ -1,4 +1,6 @@
 pub mod ErrorLemmas
+pub mod OwnReplies
+pub mod Intakes
 pub mod Carryings
 pub mod Takings
 pub mod Tellings

@@ -57,6 +57,7 @@ nothing-came terms route left left' held c m come h read told = record {
     run = λ p passed. passed;
     holds = (refl, h);
     refused = tt;
+    said = tt;
     shut = tt;
   };
 }
@@ -78,6 +79,7 @@ ended terms route left left' held c m come h closing = record {
     run = λ p passed. passed;
     holds = tt;
     refused = tt;
+    said = tt;
     shut = (h, closing);
   };
 }

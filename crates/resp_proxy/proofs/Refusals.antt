@@ -1,42 +1,91 @@
 -- Why commands of a client are not carried out.
-use Rattle.std.proofs.Common.{◌≡◌, ◌∙◌, inl, inr, ℕ, true, List, [], ◌++◌, codes, take, drop, Result, Ok, Err, ap, append_assoc, refl, subst, sym}
+use Rattle.std.proofs.Common.{◌≡◌, ◌∙◌, ◌⊎◌, inl, inr, ℕ, true, false, List, [], ◌++◌, codes, take, drop, Result, Ok, Err, ap, append_assoc, refl, subst, sym}
 use Rattle.std.proofs.lemmas.List.{append-nil, take-append-drop}
-use Rattle.std.specs.Borrow.{Bor}
-use Rattle.std.specs.Prelude.{◌∷◌, IfErr, IfSome, None, OnErr, Option, Some}
+use Rattle.std.specs.Prelude.{◌∷◌, IfErr, OnErr, Option}
 use Rattle.resp_frames.proofs.WholeTexts.{no_request_in_text, rejects_in_text}
 use Rattle.resp_frames.specs.Commands.{IsFrameOfWords}
 use Rattle.resp_frames.specs.Framing.{OnFault, RejectsByte}
-use Rattle.resp_frames.specs.Keys.{IsFirst}
 use Rattle.resp_frames.specs.Requests.{EndsNoRequest}
 use Rattle.resp_frames.specs.Texts.{text_of, used_of}
 use Rattle.resp_frames.specs.declared.error.FrameError.{FrameError}
 use Rattle.resp_frames.specs.declared.error.FrameError.TheVariants as frame
 use Rattle.resp_frames.specs.declared.words.CommandFrame.{CommandFrame}
 use Rattle.resp_line.specs.Inline.{IsArrayOf, IsLineWith}
+use Rattle.resp_commands.specs.declared.command.Class.{Class}
+use Rattle.resp_frames.proofs.SameWords.{whole_text}
 use Rattle.resp_proxy.proofs.Carryings.{line-request}
+use Rattle.resp_proxy.proofs.OwnReplies.{another-for-own, http-named, none-admitted, own-kind, quits-named}
+use Rattle.resp_proxy.specs.OwnReplies.{IsListed, Stays, unshared_treatment}
+use Rattle.resp_proxy.specs.declared.answer.Answer.{Answer}
+use Rattle.resp_proxy.specs.declared.answer.Answer.TheVariants as answer
+use Rattle.resp_proxy.specs.declared.route.Route.{Route}
+use Rattle.resp_value.specs.Rules.{rules_under}
+use Rattle.resp_value.specs.Spellings.{IsSpelling}
+use Rattle.resp_value.specs.declared.version.Version.TheVariants.{Two}
 use Rattle.resp_proxy.specs.declared.error.ClientError.{ClientError}
 use Rattle.resp_proxy.specs.declared.error.ClientError.TheVariants as error
 use Rattle.resp_proxy.specs.declared.error.CommandName.{CommandName}
-use Rattle.resp_proxy.specs.Leaving.{MayNeedOwn, NeedsOwn}
-use Rattle.resp_proxy.specs.Reasons.{BeginsForOwn, BeginsNamed, BeginsNamedForOwn, RefusesArray}
-use Rattle.resp_proxy.specs.Refusing.{BeginsCommand, BeginsCommandForOwn, NamesCommand, Refuses}
+use Rattle.resp_proxy.specs.Leaving.{NeedsOwn}
+use Rattle.resp_proxy.specs.Reasons.{BeginsForOwn, BeginsNamed, BeginsNamedForOwn, FitsAnswer, Reacts, RefusesArray}
+use Rattle.resp_proxy.specs.Refusing.{BeginsCommand, BeginsCommandForOwn, Refuses, SameLetters}
 use Rattle.resp_proxy.specs.Terms.{Terms}
-use Rattle.resp_scan.specs.Whole.{BeginsWith}
 use Rattle.resp_value.specs.Bounds.{Bounds}
 use Rattle.resp_value.specs.Laws.{NoSpellingBeginsAnother}
 use Rattle.resp_value.specs.Words.{command_of}
 
--- the error names the command with which the text begins
-pub named-for-own : (limits : Bounds) (text name rest : List ℕ) (arguments : List (List ℕ)) (first : Option (Bor (List ℕ))) (found : Option CommandName) →
-    BeginsWith limits text (command_of (name ∷ arguments)) rest → MayNeedOwn name arguments → IsFirst arguments first →
-    IfSome found (NamesCommand name first) → IfSome found (BeginsNamedForOwn limits text)
-named-for-own limits text name rest arguments first None begins kind is_first names = tt
-named-for-own limits text name rest arguments first (Some shown) begins kind is_first names = record {
-  command = record { name = name; arguments = arguments; rest = rest; begins = begins; kind = kind };
-  first = first;
-  is_first = is_first;
-  names = names;
+-- a command of these words and this text has this name
+begins-named : (limits : Bounds) (text name wanted : List ℕ) (arguments : List (List ℕ)) → IsSpelling (rules_under Two limits) (command_of (name ∷ arguments)) text →
+    SameLetters name wanted → BeginsNamed limits text wanted
+begins-named limits text name wanted arguments spelled named = record {
+  name = name;
+  arguments = arguments;
+  rest = [];
+  begins = whole_text limits text name arguments spelled;
+  named = named;
 }
+
+-- the client is closed because of QUIT
+pub quit-refused : (limits : Bounds) (route : Route) (called text name : List ℕ) (arguments : List (List ℕ)) (found : Option Class) (given : Answer) →
+    IsSpelling (rules_under Two limits) (command_of (name ∷ arguments)) text → given ≡ answer.Quit →
+    FitsAnswer route called (unshared_treatment route.is_first found name arguments) name arguments given → BeginsNamed limits text (codes "QUIT")
+quit-refused limits route called text name arguments found given spelled is fits =
+    begins-named limits text name (codes "QUIT") arguments spelled (quits-named route.is_first found name arguments
+    (subst (Reacts route called (unshared_treatment route.is_first found name arguments) name fits.first) is fits.reacts))
+
+-- the client is closed because of HTTP
+pub http-refused : (limits : Bounds) (route : Route) (called text name : List ℕ) (arguments : List (List ℕ)) (found : Option Class) (given : Answer) →
+    IsSpelling (rules_under Two limits) (command_of (name ∷ arguments)) text → given ≡ answer.Http →
+    FitsAnswer route called (unshared_treatment route.is_first found name arguments) name arguments given →
+    BeginsNamed limits text (codes "POST") ⊎ BeginsNamed limits text (codes "HOST:")
+http-refused limits route called text name arguments found given spelled is fits =
+    elim (http-named route.is_first found name arguments
+    (subst (Reacts route called (unshared_treatment route.is_first found name arguments) name fits.first) is fits.reacts)) [
+      | inl named ↦ inl (begins-named limits text name (codes "POST") arguments spelled named)
+      | inr named ↦ inr (begins-named limits text name (codes "HOST:") arguments spelled named)
+    ]
+
+-- the client is closed because it may get no other connection
+pub none-refused : (terms : Terms) (route : Route) (called text name : List ℕ) (arguments : List (List ℕ)) (found : Option Class) (given : Answer)
+    (shown : CommandName) → IsSpelling (rules_under Two terms.rules.limits) (command_of (name ∷ arguments)) text → IsListed found name arguments →
+    Stays terms route found name arguments → given ≡ answer.NoneLeft shown →
+    FitsAnswer route called (unshared_treatment route.is_first found name arguments) name arguments given →
+    (terms.own ≡ false) × BeginsNamedForOwn terms.rules.limits text shown
+none-refused terms route called text name arguments found given shown spelled listed stays is fits =
+    let reacts = subst (Reacts route called (unshared_treatment route.is_first found name arguments) name fits.first) is fits.reacts in (
+      none-admitted terms.own route.is_first found name arguments reacts.0 stays,
+      record {
+        command = record {
+          name = name;
+          arguments = arguments;
+          rest = [];
+          begins = whole_text terms.rules.limits text name arguments spelled;
+          kind = own-kind found name arguments listed (another-for-own route.is_first found name arguments reacts.0);
+        };
+        first = fits.first;
+        is_first = fits.is_first;
+        names = reacts.1;
+      },
+    )
 
 -- memory ran out
 pub memory-refused : (terms : Terms) (text : List ℕ) (e : ClientError) → e ≡ error.OutOfMemory → Refuses terms text e
@@ -49,11 +98,11 @@ memory-refused-in (Err e) terms text is = memory-refused terms text e is
 
 refuses : (terms : Terms) (array text : List ℕ) (e : ClientError) →
     ((wanted : List ℕ) → BeginsNamed terms.rules.limits array wanted → BeginsCommand terms text wanted) →
-    ((shown : CommandName) → BeginsNamedForOwn terms.rules.limits array shown → BeginsCommandForOwn terms text shown) → RefusesArray terms.rules.limits array e → Refuses terms text e
+    ((shown : CommandName) → BeginsNamedForOwn terms.rules.limits array shown → BeginsCommandForOwn terms text shown) → RefusesArray terms array e → Refuses terms text e
 refuses terms array text error.Quit named own r = named (codes "QUIT") r
 refuses terms array text error.Http named own (inl r) = inl (named (codes "POST") r)
 refuses terms array text error.Http named own (inr r) = inr (named (codes "HOST:") r)
-refuses terms array text (error.NoneLeft shown) named own r = own shown r
+refuses terms array text (error.NoneLeft shown) named own r = (r.0, own shown r.1)
 refuses terms array text error.NoClient named own r = tt
 refuses terms array text error.OutOfMemory named own r = tt
 refuses terms array text error.Closing named own r = tt
@@ -96,7 +145,7 @@ own-more terms text more shown n = let b = n.command in record {
 
 -- a command that is an array was not carried out
 pub array-refused : (terms : Terms) (front piece : List ℕ) (found : CommandFrame) (e : ClientError) → IsFrameOfWords terms.rules.limits front piece found →
-    RefusesArray terms.rules.limits (text_of found.frame) e → Refuses terms (front ++ piece) e
+    RefusesArray terms (text_of found.frame) e → Refuses terms (front ++ piece) e
 array-refused terms front piece found e f r =
     let used = used_of found.frame in
     let whole : text_of found.frame ++ drop used piece ≡ front ++ piece =
@@ -125,7 +174,7 @@ line-needs-own law terms content line array lines is a b = record {
 
 -- the command of a line was not carried out
 pub line-refused : NoSpellingBeginsAnother → (terms : Terms) (front piece content array : List ℕ) (count : ℕ) (e : ClientError) → terms.lines ≡ true →
-    IsLineWith content (front ++ take count piece) → IsArrayOf terms.rules.limits content array → RefusesArray terms.rules.limits array e →
+    IsLineWith content (front ++ take count piece) → IsArrayOf terms.rules.limits content array → RefusesArray terms array e →
     Refuses terms (front ++ piece) e
 unfolding line-needs-own
 line-refused law terms front piece content array count e lines line a r = refuses terms array (front ++ piece) e

@@ -1,15 +1,14 @@
 -- How commands are taken, one after another.
 use Rattle.std.proofs.Common.{◌≡◌, ◌∙◌, inl, inr, ℕ, ◌+◌, ◌-◌, ◌<◌, ◌≤◌, List, [], ◌∷◌, ◌++◌, length, take, drop, Option, None, Some, Result, Ok, Err, ap, append_assoc, arith, length-drop, refl, subst, sym}
 use Rattle.std.specs.List.{AllByRecursion, concat}
-use Rattle.std.specs.Prelude.{IfOk, MatchOption}
-use Rattle.resp_commands.specs.Classes.{HasClass, HasNoClass}
-use Rattle.resp_commands.specs.declared.command.Class.{Class}
+use Rattle.std.specs.Prelude.{IfOk}
 use Rattle.resp_frames.proofs.SameWords.{whole_text}
 use Rattle.resp_frames.specs.Commands.{IsCommand, IsFrameOfWords}
 use Rattle.resp_frames.specs.Texts.{text_of, used_of}
 use Rattle.resp_frames.specs.declared.words.CommandFrame.{CommandFrame}
 use Rattle.resp_proxy.proofs.Carryings.{whole-command}
-use Rattle.resp_proxy.specs.Leaving.{IsForOwn, MayNeedOwn}
+use Rattle.resp_proxy.proofs.OwnReplies.{own-kind}
+use Rattle.resp_proxy.specs.Leaving.{IsForOwn}
 use Rattle.resp_value.specs.Bounds.{Bounds}
 use Rattle.resp_value.specs.Laws.{NoSpellingBeginsAnother}
 use Rattle.resp_value.specs.Rules.{rules_under}
@@ -80,7 +79,7 @@ takes-part terms route bytes after more old mid new t c =
       taken = t.taken ++ one ∷ [];
       whole = ap (λ b. b ++ more) t.whole ∙ append_assoc (concat (texts_taken t.taken)) after more ∙ sym (texts-last t.taken one) ∙
           sym (append-nil (concat (texts_taken (t.taken ++ one ∷ []))));
-      commands = all-last (IsTaken terms) t.taken one t.commands c.fits;
+      commands = all-last (IsTaken terms route) t.taken one t.commands c.fits;
       run = λ p h. subst (HasRun new) (sym (with-taken-last route t.taken one p)) (c.run (with_taken route t.taken p) (t.run p h));
     }
 
@@ -188,13 +187,6 @@ never-same i i1 u u1 u2 old mid new route piece used part h e moves r front begu
     let s = h.taken r front begun in
     let byte : 0 < 0 = subst MovesOn e (moves (h.ready r) s.after (subst (λ terms. HasUnfinished terms u1 s.after) (sym h.same_terms) s.begun)) in
     absurd (omega (arith, byte))
-
-own-kind : (found : Option Class) (name : List ℕ) (arguments : List (List ℕ)) →
-    MatchOption found (HasNoClass name arguments) (λ class. HasClass name arguments class) → IsForOwn found → MayNeedOwn name arguments
-own-kind found name arguments has (inl is) =
-    inl (subst (λ o. MatchOption o (HasNoClass name arguments) (λ class. HasClass name arguments class)) is has)
-own-kind found name arguments has (inr is) =
-    inr (subst (λ o. MatchOption o (HasNoClass name arguments) (λ class. HasClass name arguments class)) is has)
 
 -- an array that may need a connection of the client's own was put aside
 pub array-aside : (terms : Terms) (front piece text : List ℕ) (found : CommandFrame) (m : Board) →

@@ -10,6 +10,7 @@ pub mod Replying
 pub mod Rejecting
 pub mod Room
 pub mod Refusing
+pub mod OwnReplies
 pub mod Taking
 pub mod Telling
 pub mod Visiting

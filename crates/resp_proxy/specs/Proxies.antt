@@ -7,7 +7,7 @@ use Rattle.resp_proxy.specs.declared.client.Client.{Client}
 use Rattle.resp_proxy.specs.declared.settings.Settings.{Settings}
 use Rattle.resp_proxy.specs.Clients.{Holds, route_of}
 use Rattle.resp_proxy.specs.Room.{HasRoom}
-use Rattle.resp_proxy.specs.Terms.{Terms}
+use Rattle.resp_proxy.specs.Terms.{Terms, with_own}
 
 pub record Proxied : Type 0 where
   pub board : Board
@@ -16,8 +16,6 @@ pub record Proxied : Type 0 where
   pub terms : Terms
   -- the clients that were replied to and were not asked for yet
   pub replied : List ClientId
-  -- whether a client may get a connection of its own
-  pub own : Bool
 
 abbrev pub board_in : Proxied → Board
 board_in p = p.board
@@ -35,11 +33,11 @@ with_replied clients p = record p { replied = clients }
 
 -- whether a client may get a connection of its own
 abbrev pub admits_own : Proxied → Bool
-admits_own p = p.own
+admits_own p = p.terms.own
 
 -- a client may get a connection of its own, or not, and all else is as it was
 abbrev pub with_own_admitted : Bool → Proxied → Proxied
-with_own_admitted own p = record p { own = own }
+with_own_admitted own p = record p { terms = with_own own p.terms }
 
 -- these bytes are commands and these commands are sent, and all else is as it was
 abbrev pub with_terms : Terms → Proxied → Proxied

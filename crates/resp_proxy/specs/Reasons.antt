@@ -1,5 +1,5 @@
 -- Why a command of a client is not carried out.
-use Rattle.std.specs.Prelude.{◌⊎◌, ℕ, ◌<◌, List, ◌∷◌, Option, codes}
+use Rattle.std.specs.Prelude.{◌≡◌, ◌⊎◌, ℕ, ◌<◌, false, List, ◌∷◌, Option, codes}
 use Rattle.std.specs.Borrow.{Bor}
 use Rattle.resp_frames.specs.Keys.{IsFirst}
 use Rattle.resp_line.specs.declared.inline.InlineError.{InlineError}
@@ -12,6 +12,9 @@ use Rattle.resp_proxy.specs.declared.error.CommandName.{CommandName}
 use Rattle.resp_proxy.specs.declared.part.Part.{Part}
 use Rattle.resp_proxy.specs.declared.part.Part.TheVariants as part
 use Rattle.resp_proxy.specs.Leaving.{MayNeedOwn}
+use Rattle.resp_proxy.specs.OwnReplies.{ClosesHttp, IsReplyBy, LeavesToServer, NeedsAnother, Quits, Treatment}
+use Rattle.resp_proxy.specs.Terms.{Terms}
+use Rattle.resp_proxy.specs.declared.route.Route.{Route}
 use Rattle.resp_proxy.specs.Refusing.{NamesCommand, SameLetters}
 use Rattle.resp_scan.specs.Whole.{BeginsWith}
 use Rattle.resp_value.specs.Bounds.{Bounds}
@@ -40,21 +43,46 @@ pub record BeginsNamedForOwn (limits : Bounds) (text : List ℕ) (shown : Comman
   pub is_first : IsFirst command.arguments first
   pub names : NamesCommand command.name first shown
 
--- the client is closed only because of the words of its command
-abbrev pub FitsAnswer : Bounds → List ℕ → Answer → Type 0
-FitsAnswer limits text (answer.Reply reply) = Unit {0}
-FitsAnswer limits text answer.Quit = BeginsNamed limits text (codes "QUIT")
-FitsAnswer limits text answer.Http = BeginsNamed limits text (codes "POST") ⊎ BeginsNamed limits text (codes "HOST:")
-FitsAnswer limits text (answer.NoneLeft shown) = BeginsNamedForOwn limits text shown
+-- the client is closed, and the error names the command with this name and this first word after it
+abbrev pub IsNoneLeft : List ℕ → Option (Bor (List ℕ)) → Answer → Type 0
+IsNoneLeft name first (answer.NoneLeft shown) = NamesCommand name first shown
+IsNoneLeft name first _ = ⊥
+
+-- the treatment is a reply
+abbrev pub HasReply : Treatment → Type 0
+HasReply Quits = ⊥
+HasReply ClosesHttp = ⊥
+HasReply NeedsAnother = ⊥
+HasReply LeavesToServer = ⊥
+HasReply _ = Unit {0}
+
+-- the answer closes the client, as this treatment of a command with this name and this first word after it does
+abbrev pub Closes : Treatment → List ℕ → Option (Bor (List ℕ)) → Answer → Type 0
+Closes t name first (answer.Reply text) = ⊥
+Closes t name first answer.Quit = t ≡ Quits
+Closes t name first answer.Http = t ≡ ClosesHttp
+Closes t name first (answer.NoneLeft shown) = (t ≡ NeedsAnother) × NamesCommand name first shown
+
+-- the answer is that of this treatment, to a client with this name, of a command with this name and this first word after it
+abbrev pub Reacts : Route → List ℕ → Treatment → List ℕ → Option (Bor (List ℕ)) → Answer → Type 0
+Reacts route kept t name first (answer.Reply text) = IsReplyBy t route.version route.client.number kept text.items
+Reacts route kept t name first closing = Closes t name first closing
+
+-- the answer is that of this treatment, to a client with this name, of a command with this name and these words after it
+pub record FitsAnswer (route : Route) (kept : List ℕ) (t : Treatment) (name : List ℕ) (words : List (List ℕ)) (given : Answer) : Type 0 where
+  pub first : Option (Bor (List ℕ))
+  pub is_first : IsFirst words first
+  pub reacts : Reacts route kept t name first given
 
 -- why an array is not carried out
-abbrev pub RefusesArray : Bounds → List ℕ → ClientError → Type 0
-RefusesArray limits text error.Quit = BeginsNamed limits text (codes "QUIT")
-RefusesArray limits text error.Http = BeginsNamed limits text (codes "POST") ⊎ BeginsNamed limits text (codes "HOST:")
-RefusesArray limits text (error.NoneLeft shown) = BeginsNamedForOwn limits text shown
-RefusesArray limits text error.NoClient = Unit {0}
-RefusesArray limits text error.OutOfMemory = Unit {0}
-RefusesArray limits text _ = ⊥
+abbrev pub RefusesArray : Terms → List ℕ → ClientError → Type 0
+RefusesArray terms text error.Quit = BeginsNamed terms.rules.limits text (codes "QUIT")
+RefusesArray terms text error.Http =
+    BeginsNamed terms.rules.limits text (codes "POST") ⊎ BeginsNamed terms.rules.limits text (codes "HOST:")
+RefusesArray terms text (error.NoneLeft shown) = (terms.own ≡ false) × BeginsNamedForOwn terms.rules.limits text shown
+RefusesArray terms text error.NoClient = Unit {0}
+RefusesArray terms text error.OutOfMemory = Unit {0}
+RefusesArray terms text _ = ⊥
 
 -- the error for a line that is no command
 abbrev pub inline_error : InlineError → ClientError

@@ -1,9 +1,9 @@
 -- Why a client is closed.
-use Rattle.std.specs.Prelude.{◌≡◌, ◌≢◌, ◌⊎◌, ℕ, true, List, [], ◌∷◌, ◌++◌, Option, None, Contains, MatchOption, codes, map}
+use Rattle.std.specs.Prelude.{◌≡◌, ◌≢◌, ◌⊎◌, ℕ, true, false, List, [], ◌∷◌, ◌++◌, Option, None, Contains, MatchOption, codes, map}
 use Rattle.std.specs.Borrow.{Bor}
 use Rattle.std.specs.Char.{to_ascii_lowercase}
 use Rattle.resp_commands.specs.Classes.{HasSubcommands}
-use Rattle.resp_commands.specs.Names.{HasName, name_of}
+use Rattle.resp_commands.specs.Names.{HasName, LacksSubcommand, name_of}
 use Rattle.resp_commands.specs.declared.command.Command.{Command}
 use Rattle.resp_commands.specs.declared.table.TheConstants.{COMMANDS}
 use Rattle.resp_frames.specs.declared.error.FrameError.TheVariants as frame
@@ -21,13 +21,13 @@ use Rattle.resp_proxy.specs.Terms.{IsRequestOf, Terms}
 abbrev pub SameLetters : List ℕ → List ℕ → Type 0
 SameLetters name other = map to_ascii_lowercase name ≡ map to_ascii_lowercase other
 
--- the name is that of a command to which the proxy itself may reply although clients share a connection for it
-abbrev pub IsLocalName : List ℕ → Type 0
-IsLocalName name = SameLetters name (codes "INFO") ⊎ SameLetters name (codes "PING")
+-- the error names the subcommand of this word, if the command has one
+abbrev pub IsNamedBy : Command → List ℕ → Option (Bor (List ℕ)) → Type 0
+IsNamedBy command word shown = MatchOption shown (LacksSubcommand command word) (λ text. SameLetters word text.now)
 
--- the error names the word after the name, if there is one
-abbrev pub NamesFirst : Option (Bor (List ℕ)) → Option (Bor (List ℕ)) → Type 0
-NamesFirst first shown = MatchOption first (shown ≡ None) (λ word. MatchOption shown ⊥ (λ text. SameLetters word.now text.now))
+-- the error names the subcommand of the word after the name, if there is one
+abbrev pub NamesFirst : Command → Option (Bor (List ℕ)) → Option (Bor (List ℕ)) → Type 0
+NamesFirst command first shown = MatchOption first (shown ≡ None) (λ word. IsNamedBy command word.now shown)
 
 -- the error names the command with this name and this first word after it: its subcommand too, if the command has subcommands
 pub record NamesCommand (name : List ℕ) (first : Option (Bor (List ℕ))) (shown : CommandName) : Type 0 where
@@ -35,7 +35,7 @@ pub record NamesCommand (name : List ℕ) (first : Option (Bor (List ℕ))) (sho
   pub found : Contains COMMANDS command
   pub named : HasName command name
   pub same : shown.command.now ≡ name_of command
-  pub with_subcommands : HasSubcommands command → NamesFirst first shown.subcommand
+  pub with_subcommands : HasSubcommands command → NamesFirst command first shown.subcommand
   pub without_subcommands : (HasSubcommands command → ⊥) → shown.subcommand ≡ None
 
 -- the text begins with a command of this name, an array or a line
@@ -70,7 +70,7 @@ Refuses terms text error.LongLine = (terms.lines ≡ true) × BeginsLongLine tex
 Refuses terms text error.OverLimits = (terms.lines ≡ true) × BeginsLineThat text (HasFaultyWords terms.rules.limits)
 Refuses terms text error.Http = BeginsCommand terms text (codes "POST") ⊎ BeginsCommand terms text (codes "HOST:")
 Refuses terms text error.Quit = BeginsCommand terms text (codes "QUIT")
-Refuses terms text (error.NoneLeft shown) = BeginsCommandForOwn terms text shown
+Refuses terms text (error.NoneLeft shown) = (terms.own ≡ false) × BeginsCommandForOwn terms text shown
 Refuses terms text error.Closing = Unit {0}
 Refuses terms text error.NoClient = Unit {0}
 Refuses terms text error.OutOfMemory = Unit {0}

@@ -1,5 +1,5 @@
 -- The commands that are taken from the bytes of a client.
-use Rattle.std.specs.Prelude.{◌≡◌, ◌≢◌, ◌⊎◌, ℕ, ◌≤◌, List, [], ◌∷◌, ◌++◌, length, map, take, Ok, Option, None, Some, OnOk, OnErr, IfErr, Result, true}
+use Rattle.std.specs.Prelude.{◌≡◌, ℕ, Bool, ◌≤◌, List, [], ◌∷◌, ◌++◌, length, map, take, Ok, Option, None, Some, MatchOption, OnOk, OnErr, IfErr, Result, true}
 use Rattle.std.specs.List.{AllByRecursion, concat}
 use Rattle.resp_frames.specs.declared.begun.Begun.{Begun}
 use Rattle.resp_frames.specs.Framing.{HasBegun, IsReady}
@@ -8,12 +8,11 @@ use Rattle.resp_board.specs.Boards.{Ask, Own}
 use Rattle.resp_board.specs.Histories.{History, with_event}
 use Rattle.resp_board.specs.Runs.{HasRun, KeepsOpen, KeepsRun, WhereRun}
 use Rattle.resp_board.specs.declared.board.Board.{Board}
-use Rattle.resp_commands.specs.Classes.{HasClass, HasNoClass}
 use Rattle.resp_commands.specs.declared.command.Class.{Class}
-use Rattle.resp_commands.specs.declared.command.Class.TheVariants as class
 use Rattle.resp_proxy.specs.Clients.{Holds, is_closing}
 use Rattle.resp_proxy.specs.Leaving.{NeedsOwn}
-use Rattle.resp_proxy.specs.Refusing.{IsLocalName, Refuses}
+use Rattle.resp_proxy.specs.OwnReplies.{IsError, IsListed, IsReply, IsReplyBy, IsReplyOf, Stays, ok, shared_treatment, treatment}
+use Rattle.resp_proxy.specs.Refusing.{Refuses}
 use Rattle.resp_value.specs.Bounds.{Bounds}
 use Rattle.resp_proxy.specs.declared.part.Part.{Part}
 use Rattle.resp_proxy.specs.declared.part.Part.TheVariants.{Aside, Partial, Whole}
@@ -21,6 +20,7 @@ use Rattle.resp_proxy.specs.Terms.{IsAdmitted, IsNoRequest, IsRequestOf, MayBeSe
 use Rattle.resp_proxy.specs.Unfinished.{HasUnfinished, WhereUnfinished, terms_of}
 use Rattle.resp_proxy.specs.declared.client.Client.{Client}
 use Rattle.resp_proxy.specs.declared.error.ClientError.{ClientError}
+use Rattle.resp_proxy.specs.declared.error.ClientError.TheVariants as error
 use Rattle.resp_proxy.specs.declared.intake.Intake.{Intake}
 use Rattle.resp_proxy.specs.declared.route.Route.{Route}
 use Rattle.resp_frames.specs.declared.unfinished.Unfinished.{Unfinished}
@@ -28,6 +28,7 @@ use Rattle.resp_scan.specs.Whole.{BeginsWith}
 use Rattle.resp_value.specs.Rules.{rules_under}
 use Rattle.resp_value.specs.Spellings.{IsSpelling}
 use Rattle.resp_value.specs.Words.{command_of}
+use Rattle.resp_value.specs.declared.version.Version.{Version}
 use Rattle.resp_value.specs.declared.version.Version.TheVariants.{Two}
 
 -- what the proxy did with a part of a client's bytes
@@ -55,31 +56,34 @@ pub record IsQueued (terms : Terms) (text sent : List ℕ) : Type 0 where
   pub request : IsRequestOf terms text sent (name ∷ arguments)
   pub allowed : MayBeSent terms name arguments
 
--- the table has the command in another class than that of commands for which clients share a connection, or does not have it
-abbrev pub IsNotShared : List ℕ → List (List ℕ) → Type 0
-IsNotShared name arguments = ((c : Class) × HasClass name arguments c × (c ≢ class.Shared)) ⊎ HasNoClass name arguments
+-- This is the proxy's own reply to a command of these words. The command is not one that is sent, and the client does not leave
+-- its line before it.
+pub record IsOwnReplyTo (terms : Terms) (route : Route) (name : List ℕ) (arguments : List (List ℕ)) (answer : List ℕ) : Type 0 where
+  pub class : Option Class
+  pub listed : IsListed class name arguments
+  pub not_admitted : class ≡ None → IsAdmitted terms name → ⊥
+  pub stays : Stays terms route class name arguments
+  -- the name that the client has given itself
+  pub called : List ℕ
+  pub reply : IsReplyBy (treatment terms.pings route.is_first class name arguments) route.version route.client.number called answer
 
--- clients share no connection for the command, or its name is INFO or PING
-abbrev pub MayBeAnswered : List ℕ → List (List ℕ) → Type 0
-MayBeAnswered name arguments = IsNotShared name arguments ⊎ IsLocalName name
-
--- the text is a command that the proxy itself may answer
-pub record IsAnswered (terms : Terms) (text : List ℕ) : Type 0 where
+-- the text is a command that the proxy itself answers, and this is the answer
+pub record IsAnswered (terms : Terms) (route : Route) (text answer : List ℕ) : Type 0 where
   pub sent : List ℕ
   pub name : List ℕ
   pub arguments : List (List ℕ)
   pub request : IsRequestOf terms text sent (name ∷ arguments)
-  pub reason : MayBeAnswered name arguments
+  pub reply : IsOwnReplyTo terms route name arguments answer
 
 -- The text has no words, and nothing was done; or it is a command that may be sent, and it was queued; or it is a command that
--- the proxy itself may answer, and it was answered.
-abbrev pub Fits : Terms → List ℕ → Deed → Type 0
-Fits terms text Passes = IsNoRequest terms text
-Fits terms text (Queues sent) = IsQueued terms text sent
-Fits terms text (Answers answer) = IsAnswered terms text
+-- the proxy itself answers, and it was answered.
+abbrev pub Fits : Terms → Route → List ℕ → Deed → Type 0
+Fits terms route text Passes = IsNoRequest terms text
+Fits terms route text (Queues sent) = IsQueued terms text sent
+Fits terms route text (Answers answer) = IsAnswered terms route text answer
 
-abbrev pub IsTaken : Terms → Taken → Type 0
-IsTaken terms t = Fits terms t.text t.deed
+abbrev pub IsTaken : Terms → Route → Taken → Type 0
+IsTaken terms route t = Fits terms route t.text t.deed
 
 -- this was done for this client
 abbrev pub with_one : Route → Deed → History → History
@@ -96,16 +100,16 @@ with_taken route (t ∷ taken) p = with_taken route taken (with_one route t.deed
 pub record Takes (terms : Terms) (route : Route) (bytes after : List ℕ) (old new : Board) : Type 0 where
   pub taken : List Taken
   pub whole : bytes ≡ concat (texts_taken taken) ++ after
-  pub commands : AllByRecursion (IsTaken terms) taken
+  pub commands : AllByRecursion (IsTaken terms route) taken
   pub run : WhereRun old (λ p. HasRun new (with_taken route taken p))
 
--- the text begins with a command of a name to which the proxy itself may reply although clients share a connection for it
-pub record IsLocalText (limits : Bounds) (text : List ℕ) : Type 0 where
+-- the text begins with a command for which clients share a connection, and this is the proxy's own reply
+pub record IsLocalReply (limits : Bounds) (pings : Bool) (text answer : List ℕ) : Type 0 where
   pub name : List ℕ
   pub arguments : List (List ℕ)
   pub rest : List ℕ
   pub begins : BeginsWith limits text (command_of (name ∷ arguments)) rest
-  pub local : IsLocalName name
+  pub reply : IsReplyOf (shared_treatment pings name arguments) answer
 
 -- the text begins with a command whose name is admitted
 pub record AdmitsText (terms : Terms) (text : List ℕ) : Type 0 where
@@ -115,11 +119,11 @@ pub record AdmitsText (terms : Terms) (text : List ℕ) : Type 0 where
   pub begins : BeginsWith terms.rules.limits text (command_of (name ∷ arguments)) rest
   pub admitted : IsAdmitted terms name
 
--- a command of these words and this text was queued, if it may be sent, or answered, if the proxy itself may answer it
-abbrev pub Does : Terms → List ℕ → List (List ℕ) → List ℕ → Deed → Type 0
-Does terms name arguments text Passes = ⊥
-Does terms name arguments text (Queues sent) = (sent ≡ text) × MayBeSent terms name arguments
-Does terms name arguments text (Answers answer) = MayBeAnswered name arguments
+-- a command of these words and this text was queued, if it may be sent, or has the proxy's own reply
+abbrev pub Does : Terms → Route → List ℕ → List (List ℕ) → List ℕ → Deed → Type 0
+Does terms route name arguments text Passes = ⊥
+Does terms route name arguments text (Queues sent) = (sent ≡ text) × MayBeSent terms name arguments
+Does terms route name arguments text (Answers answer) = IsOwnReplyTo terms route name arguments answer
 
 -- the text is a command, which was queued, if it may be sent, or answered
 pub record Carries (terms : Terms) (route : Route) (text : List ℕ) (old new : Board) : Type 0 where
@@ -127,13 +131,13 @@ pub record Carries (terms : Terms) (route : Route) (text : List ℕ) (old new : 
   pub arguments : List (List ℕ)
   pub spelled : IsSpelling (rules_under Two terms.rules.limits) (command_of (name ∷ arguments)) text
   pub deed : Deed
-  pub does : Does terms name arguments text deed
+  pub does : Does terms route name arguments text deed
   pub run : WhereRun old (λ p. HasRun new (with_one route deed p))
 
 -- this was done with a part of the bytes
 pub record TakesPart (terms : Terms) (route : Route) (text : List ℕ) (old new : Board) : Type 0 where
   pub deed : Deed
-  pub fits : Fits terms text deed
+  pub fits : Fits terms route text deed
   pub run : WhereRun old (λ p. HasRun new (with_one route deed p))
 
 -- these bytes are a command that needs a connection of the client's own, and nothing was done
@@ -193,9 +197,21 @@ abbrev pub with_last_answer : Route → Option (List ℕ) → History → Histor
 with_last_answer route None p = p
 with_last_answer route (Some answer) p = with_event (Own route.client answer) p
 
--- the client has one more answer, or nothing has changed
-pub record SaysLast (route : Route) (old new : Board) : Type 0 where
+-- The last answer to a client that is closed because of this error. There is none if the error has none, or memory ran out.
+abbrev pub IsLastAnswer : Version → ClientError → Option (List ℕ) → Type 0
+IsLastAnswer version e None = Unit {0}
+IsLastAnswer version error.Quit (Some text) = IsReply version ok text
+IsLastAnswer version (error.NoneLeft shown) (Some text) = IsError version text
+IsLastAnswer version (error.Protocol e) (Some text) = IsError version text
+IsLastAnswer version error.Quotes (Some text) = IsError version text
+IsLastAnswer version error.LongLine (Some text) = IsError version text
+IsLastAnswer version error.OverLimits (Some text) = IsError version text
+IsLastAnswer version _ (Some text) = ⊥
+
+-- the client has one more answer because of this error, or nothing has changed
+pub record SaysLast (route : Route) (e : ClientError) (old new : Board) : Type 0 where
   pub answer : Option (List ℕ)
+  pub is_last : IsLastAnswer route.version e answer
   pub run : WhereRun old (λ p. HasRun new (with_last_answer route answer p))
 
 -- Bytes of a client are these parts, whose commands were queued or answered, and other bytes. The client holds the other
@@ -206,10 +222,11 @@ pub record TakesIn (terms : Terms) (route : Route) (bytes : List ℕ) (c : Clien
   pub after : List ℕ
   pub last : Option (List ℕ)
   pub whole : bytes ≡ concat (texts_taken taken) ++ after
-  pub commands : AllByRecursion (IsTaken terms) taken
+  pub commands : AllByRecursion (IsTaken terms route) taken
   pub run : WhereRun old (λ p. HasRun new (with_last_answer route last (with_taken route taken p)))
   pub holds : OnOk end ((last ≡ None) × Holds terms c after)
   pub refused : IfErr end (Refuses terms after)
+  pub said : IfErr end (λ e. IsLastAnswer route.version e last)
   pub shut : OnErr end (Holds terms c [] × (is_closing c ≡ true))
 
 -- these bytes of a piece were taken

@@ -19,10 +19,18 @@ pub record Terms : Type 0 where
   pub lines : Bool
   -- the names of commands that are sent although the table does not have them
   pub admitted : List (List ℕ)
+  -- whether the proxy itself replies to PING
+  pub pings : Bool
+  -- whether a client may get a connection of its own
+  pub own : Bool
 
 -- a command of this name is admitted too
 abbrev pub with_admitted : List ℕ → Terms → Terms
 with_admitted name t = record t { admitted = t.admitted ++ name ∷ [] }
+
+-- a client may get a connection of its own, or not
+abbrev pub with_own : Bool → Terms → Terms
+with_own own t = record t { own = own }
 
 -- the name is one of these, in upper, lower or mixed case
 pub record IsAmong (names : List (List ℕ)) (name : List ℕ) : Type 0 where

@@ -1,17 +1,28 @@
 //! The replies of the proxy itself.
 
-ghost use Rattle.std.specs.Prelude.{IfOk, IfSome, IsTrue};
+ghost use Rattle.std.specs.Prelude.{◌≡◌, ◌++◌, codes, if◌then◌else◌, map, pos, IfNone, IfOk, IfSome, OnOk};
+ghost use Rattle.resp_commands.specs.Names.{IsUnknown};
+ghost use Rattle.resp_frames.specs.Commands.{TellsWords};
 ghost use Rattle.resp_frames.specs.Texts.{text_of};
-ghost use Rattle.resp_proxy.specs.Leaving.{IsForOwn};
-ghost use Rattle.resp_proxy.specs.Reasons.{BeginsNamedForOwn, FitsAnswer};
-ghost use Rattle.resp_proxy.specs.Refusing.{NamesCommand, SameLetters};
+ghost use Rattle.resp_proxy.specs.OwnReplies.{IsError, IsListed, IsReply, IsReplyBy, NeedsAnother, error, is_client_name, name_datum, named_reply, ok, on_line, treatment_in, unshared_treatment};
+ghost use Rattle.resp_proxy.specs.Reasons.{Closes, FitsAnswer, HasReply, IsNoneLeft, Reacts};
+ghost use Rattle.resp_proxy.specs.Refusing.{IsNamedBy, NamesCommand};
+ghost use Rattle.resp_value.specs.Canonical.{canonical_text};
+ghost use Rattle.resp_value.specs.Data.{scalar};
+ghost use Rattle.resp_value.specs.Data as d;
+ghost use Rattle.resp_value.specs.Words.{word_datum};
+ghost use Rattle.resp_value.specs.declared.version.Version.{Version};
 
 use crate::error::{ClientError, CommandName};
 use crate::hello::hello_text;
+use crate::reaction::{Reaction, reaction_to};
 use crate::route::Route;
-use resp_commands::{Class, class_of, entry, subcommand};
-use resp_frames::{CommandFrame, Frames};
+use crate::setting;
+use resp_commands::{Class, Command, entry, subcommand};
+use resp_frames::CommandFrame;
 use resp_scan::whole;
+use resp_scan::whole::CommandArguments;
+use resp_value::laws::no_spelling_begins_another;
 use resp_value::limits::Limits;
 use resp_value::version::Version;
 use std::alloc::{AllocError, Global};
@@ -19,44 +30,6 @@ use std::slice::EscapeAscii;
 
 /// The maximum number of bytes of a command's name in an error.
 const SHOWN: usize = 64;
-
-/// The words of a command that its reply depends on.
-#[derive(Clone, Copy)]
-struct DecidingWords<'a> {
-    name: &'a [u8],
-    /// The number of words after the name, and the first two of them.
-    count: u64,
-    first: &'a [u8],
-    second: &'a [u8],
-}
-
-/// Returns whether a command needs a dedicated connection, or one in another setting, and the proxy
-/// does not reply to it. `answers_settings` says whether it replies if the setting stays the same.
-#[inline(always)]
-pub(crate) fn needs_own(frames: &Frames, answers_settings: bool, command: &CommandFrame) -> bool
-    ensures { IsTrue result → IsForOwn command.now.words.class }
-{
-    match command.words.class {
-        Some(Class::OwnConnection) => true,
-        Some(Class::Setting) => !(answers_settings && keeps_settings(&frames.limits(), command)),
-        _ => false,
-    }
-}
-
-/// Returns whether a command leaves the client in version 2 and in database 0: HELLO, HELLO 2 and
-/// SELECT 0.
-fn keeps_settings(limits: &Limits, command: &CommandFrame) -> bool {
-    let Some(words) = whole::command(command.frame.text(), limits) else {
-        return false;
-    };
-    let count = command.words.arguments;
-    let mut arguments = words.arguments;
-    let first = arguments.next().unwrap_or(b"");
-    if is(words.name, b"HELLO") {
-        return count == 0 || count == 1 && first == b"2".as_slice();
-    }
-    is(words.name, b"SELECT") && count == 1 && first == b"0".as_slice()
-}
 
 /// The treatment of a command that is not sent to the server.
 #[derive(Drop)]
@@ -80,228 +53,308 @@ pub(crate) fn own_answer(
     name: &mut Vec<u8>,
     command: &CommandFrame,
 ) -> Result<Answer, AllocError>
-    ensures { IfOk result (FitsAnswer limits.now (text_of command.now.frame)) }
+    ensures { (words : TellsWords limits.now (text_of command.now.frame) command.now.words) →
+        IfOk result (FitsAnswer route name.old.items (unshared_treatment route.is_first
+        command.now.words.class words.name words.arguments) words.name words.arguments) }
 {
+    no_spelling_begins_another();
     let Some(words) = whole::command(command.frame.text(), limits) else {
-        return Ok(Answer::Reply(b"-ERR no command\r\n".to_vec(alloc)?));
-    };
-    let mut arguments = words.arguments;
-    let asked = DecidingWords {
-        name: words.name,
-        count: command.words.arguments,
-        first: arguments.next().unwrap_or(b""),
-        second: arguments.next().unwrap_or(b""),
-    };
-    if is(asked.name, b"QUIT") {
+        // This never happens, since the frame is a command.
         return Ok(Answer::Quit);
+    };
+    answer_by(
+        alloc,
+        route,
+        name,
+        command.words.class,
+        words.name,
+        words.arguments,
+    )
+}
+
+/// Returns what the proxy does with the command of this class and name with these words after it.
+fn answer_by(
+    alloc: Global,
+    route: Route,
+    own_name: &mut Vec<u8>,
+    class: Option<Class>,
+    name: &[u8],
+    words: CommandArguments<'_>,
+) -> Result<Answer, AllocError>
+    ensures { IsListed class name.now words.entry → IfOk result (FitsAnswer route
+        own_name.old.items (unshared_treatment route.is_first class name.now words.entry) name.now
+        words.entry) }
+{
+    let first = words.iter().next();
+    let reaction = reaction_to(route.is_first, class, name, words);
+    react(alloc, route, own_name, reaction, name, first)
+}
+
+/// Returns the answer of a reaction to the command of this name. `first` is the word after the name.
+fn react(
+    alloc: Global,
+    route: Route,
+    own_name: &mut Vec<u8>,
+    reaction: Reaction<'_>,
+    name: &[u8],
+    first: Option<&[u8]>,
+) -> Result<Answer, AllocError>
+    ensures { (treatment_in reaction.entry ≡ NeedsAnother → IsUnknown name.now → ⊥) →
+        IfOk result (Reacts route own_name.old.items (treatment_in reaction.entry) name.now first.entry) }
+{
+    if let Some(answer) = closing(reaction, name, first) {
+        return Ok(answer);
     }
-    if is(asked.name, b"POST") || is(asked.name, b"HOST:") {
-        return Ok(Answer::Http);
-    }
-    if !stays(route, asked) {
-        if let Some(name) = name_for_own(limits, command.frame.text()) {
-            return Ok(Answer::NoneLeft(name));
-        }
-    }
-    let text = answer_to(alloc, route, name, asked, command.words.class)?;
+    let text = reply(alloc, route, own_name, reaction, name, first)?;
     Ok(Answer::Reply(text))
 }
 
-/// Returns the name of the command with which a text begins, if the command needs a dedicated
-/// connection, or one in another setting.
-fn name_for_own(limits: &Limits, text: &[u8]) -> Option<CommandName>
-    ensures { IfSome result (BeginsNamedForOwn limits.now text.now) }
+/// Returns the answer of a reaction that closes the client.
+fn closing(reaction: Reaction<'_>, name: &[u8], first: Option<&[u8]>) -> Option<Answer>
+    ensures some { (treatment_in reaction.entry ≡ NeedsAnother → IsUnknown name.now → ⊥) →
+        IfSome result (Closes (treatment_in reaction.entry) name.now first.entry) }
+    ensures none { IfNone result (HasReply (treatment_in reaction.entry)) }
 {
-    let words = whole::command(text, limits)?;
-    let first = words.arguments.iter().next();
-    match class_of(words.name, words.arguments) {
-        Some(Class::OwnConnection | Class::Setting) => command_name(words.name, first),
-        _ => None,
+    match reaction {
+        Reaction::Quit => Some(Answer::Quit),
+        Reaction::Http => Some(Answer::Http),
+        Reaction::NoneLeft => Some(none_left_for(name, first)),
+        Reaction::Ok
+        | Reaction::Number
+        | Reaction::Name
+        | Reaction::SetName(_)
+        | Reaction::Hello
+        | Reaction::Error(_)
+        | Reaction::Unknown
+        | Reaction::Refused => None,
+    }
+}
+
+/// Returns the reply of a reaction to the command of this name. `first` is the word after the name.
+fn reply(
+    alloc: Global,
+    route: Route,
+    own_name: &mut Vec<u8>,
+    reaction: Reaction<'_>,
+    name: &[u8],
+    first: Option<&[u8]>,
+) -> Result<Vec<u8>, AllocError>
+    requires { HasReply (treatment_in reaction) }
+    ensures { IfOk result (λ text. IsReplyBy (treatment_in reaction.entry) route.version
+        route.client.number own_name.old.items text.items) }
+{
+    match reaction {
+        Reaction::Ok => ok(alloc),
+        Reaction::Number => integer(alloc, route.client.number),
+        Reaction::Name => name_of(alloc, route.version, own_name),
+        Reaction::SetName(word) => set_name(alloc, own_name, word),
+        Reaction::Hello => hello_text(alloc, route.client.number),
+        Reaction::Error(message) => error(alloc, message),
+        Reaction::Unknown => unknown(alloc, name, first),
+        Reaction::Refused | Reaction::Quit | Reaction::Http | Reaction::NoneLeft => {
+            not_served(alloc, name, first)
+        }
+    }
+}
+
+/// Returns the answer for a command of this name that needs a dedicated connection.
+fn none_left_for(name: &[u8], first: Option<&[u8]>) -> Answer
+    ensures { (IsUnknown name.now → ⊥) → IsNoneLeft name.now first.entry result }
+{
+    match command_name(name, first) {
+        Some(name) => Answer::NoneLeft(name),
+        // This never happens, since the table has a class for the command.
+        None => Answer::Quit,
     }
 }
 
 /// Returns the name of the command with this name and this first word after it, as the table has
-/// it, or `None` if the table has no such command, or no such subcommand of it.
+/// it, or `None` if the table has no such command.
 fn command_name(name: &[u8], first: Option<&[u8]>) -> Option<CommandName>
-    ensures { IfSome result (NamesCommand name.now first.entry) }
+    ensures some { IfSome result (NamesCommand name.now first.entry) }
+    ensures none { IfNone result (IsUnknown name.now) }
 {
     let command = entry(name)?;
     Some(CommandName {
         command: command.name(),
         subcommand: match first {
-            Some(word) if command.has_subcommands() => Some(subcommand(command, word)?.name()),
+            Some(word) if command.has_subcommands() => subcommand_name(command, word),
             _ => None,
         },
     })
 }
 
-/// Returns whether the proxy replies to a command that concerns the setting: to SELECT 0 of a
-/// client in database 0, and to HELLO without a user, whose reply tells the client that its version
-/// is still 2.
-fn stays(route: Route, asked: DecidingWords<'_>) -> bool {
-    route.is_first
-        && asked.count <= 1
-        && (is(asked.name, b"HELLO") || is(asked.name, b"SELECT") && asked.first == b"0".as_slice())
-}
-
-/// Returns whether a word is this one, in upper or lower case.
-pub(crate) fn is(word: &[u8], wanted: &[u8]) -> bool
-    ensures { IsTrue result → SameLetters word.now wanted.now }
+/// Returns the name of this subcommand of a command, as the table has it, or `None` if the command has
+/// no such subcommand.
+fn subcommand_name(command: &Command, word: &[u8]) -> Option<&'static [u8]>
+    ensures { IsNamedBy command.now word.now result }
 {
-    word.eq_ignore_ascii_case(wanted)
-}
-
-/// Returns the reply to a command other than QUIT.
-fn answer_to(
-    alloc: Global,
-    route: Route,
-    name: &mut Vec<u8>,
-    asked: DecidingWords<'_>,
-    class: Option<Class>,
-) -> Result<Vec<u8>, AllocError> {
-    if is(asked.name, b"CLIENT") && is_own(asked.first) {
-        return answer_to_client(alloc, route, name, asked);
-    }
-    if route.is_first && is(asked.name, b"HELLO") {
-        return answer_to_hello(alloc, route.client.number, asked);
-    }
-    if route.is_first
-        && is(asked.name, b"SELECT")
-        && asked.count == 1
-        && asked.first == b"0".as_slice()
-    {
-        return ok(alloc);
-    }
-    if class == Some(Class::OwnAnswer) {
-        return answer_outside(alloc, asked.name);
-    }
-    refusal(alloc, asked, class)
-}
-
-/// Returns whether the proxy itself replies to this subcommand of CLIENT.
-fn is_own(subcommand: &[u8]) -> bool {
-    is(subcommand, b"ID")
-        || is(subcommand, b"GETNAME")
-        || is(subcommand, b"SETNAME")
-        || is(subcommand, b"SETINFO")
-        || is(subcommand, b"NO-EVICT")
-}
-
-/// Returns the reply to a subcommand of CLIENT. The name is that of the client itself, and no other
-/// client is involved.
-fn answer_to_client(
-    alloc: Global,
-    route: Route,
-    name: &mut Vec<u8>,
-    asked: DecidingWords<'_>,
-) -> Result<Vec<u8>, AllocError> {
-    if is(asked.first, b"ID") && asked.count == 1 {
-        return Ok(format!(in alloc; ":{}\r\n", route.client.number)?.into_bytes());
-    }
-    if is(asked.first, b"GETNAME") && asked.count == 1 {
-        return name_of(alloc, route.version, name);
-    }
-    if is(asked.first, b"SETNAME") && asked.count == 2 {
-        return set_name(alloc, name, asked.second);
-    }
-    if is(asked.first, b"SETINFO") && asked.count == 3 {
-        return ok(alloc);
-    }
-    if is(asked.first, b"NO-EVICT") && asked.count == 2 {
-        return ok(alloc);
-    }
-    b"-ERR wrong number of arguments for 'client' command\r\n".to_vec(alloc)
+    Some(subcommand(command, word)?.name())
 }
 
 /// Returns the reply with the client's name, or with null if it has no name.
-fn name_of(alloc: Global, version: Version, name: &[u8]) -> Result<Vec<u8>, AllocError> {
+fn name_of(alloc: Global, version: Version, name: &[u8]) -> Result<Vec<u8>, AllocError>
+    ensures { IfOk result (λ text. IsReply version (name_datum name.now) text.items) }
+{
     if name.is_empty() {
-        return match version {
-            Version::Two => b"$-1\r\n".to_vec(alloc),
-            Version::Three => b"_\r\n".to_vec(alloc),
-        };
+        null(alloc, version)
+    } else {
+        bulk(alloc, name)
     }
-    let mut text = format!(in alloc; "${}\r\n", name.len())?.into_bytes();
-    text.extend_from_slice(name)?;
-    text.extend_from_slice(b"\r\n")?;
+}
+
+/// Returns null.
+fn null(alloc: Global, version: Version) -> Result<Vec<u8>, AllocError>
+    ensures { IfOk result (λ text. IsReply version (scalar d.Null) text.items) }
+{
+    let text = copy_of(alloc, null_text(version))?;
     Ok(text)
 }
 
+/// Returns the text of null.
+fn null_text(version: Version) -> &'static [u8]
+    ensures { result.now ≡ canonical_text version (scalar d.Null) }
+{
+    match version {
+        Version::Two => b"$-1\r\n",
+        Version::Three => b"_\r\n",
+    }
+}
+
 /// Gives the client a name, if each of its bytes is printable and not a space.
-fn set_name(alloc: Global, kept: &mut Vec<u8>, name: &[u8]) -> Result<Vec<u8>, AllocError> {
-    if !is_name(name) {
-        return b"-ERR Client names cannot contain spaces, newlines or special characters.\r\n".to_vec(
+fn set_name(alloc: Global, kept: &mut Vec<u8>, name: &[u8]) -> Result<Vec<u8>, AllocError>
+    ensures reply { IfOk result (λ text. (version : Version) →
+        IsReply version (named_reply name.now) text.items) }
+    ensures named { OnOk result (kept.new.items ≡
+        (if is_client_name name.now then name.now else kept.old.items)) }
+{
+    if !is_client_name(name) {
+        return error(
             alloc,
+            b"ERR Client names cannot contain spaces, newlines or special characters.",
         );
     }
     let answer = ok(alloc)?;
-    let copy = name.to_vec(alloc)?;
+    let copy = copy_of(alloc, name)?;
     *kept = copy;
     Ok(answer)
 }
 
 /// Returns whether each byte of a name of a client is printable and not a space.
-pub(crate) fn is_name(name: &[u8]) -> bool {
-    for byte in name {
-        if *byte < b'!' || *byte > b'~' {
+pub(crate) fn is_client_name(name: &[u8]) -> bool
+    ensures { result ≡ is_client_name name.now }
+{
+    let mut index = 0;
+    while index < name.len() {
+        if name[index] < b'!' || name[index] > b'~' {
             return false;
         }
+        index += 1;
     }
     true
 }
 
-/// Returns the reply to HELLO: the client stays in version 2.
-fn answer_to_hello(
-    alloc: Global,
-    number: u64,
-    asked: DecidingWords<'_>,
-) -> Result<Vec<u8>, AllocError> {
-    if asked.count == 1 && asked.first != b"2".as_slice() {
-        return b"-NOPROTO 'HELLO' with another version than 2 needs a connection of its own, and no more are allowed\r\n".to_vec(
-            alloc,
-        );
-    }
-    hello_text(alloc, number)
+/// Returns `+OK`.
+pub(crate) fn ok(alloc: Global) -> Result<Vec<u8>, AllocError>
+    ensures { IfOk result (λ text. (version : Version) → IsReply version ok text.items) }
+{
+    let text = copy_of(alloc, b"+OK\r\n")?;
+    Ok(text)
 }
 
-/// Returns the reply to EXEC, DISCARD and UNWATCH outside a transaction.
-fn answer_outside(alloc: Global, name: &[u8]) -> Result<Vec<u8>, AllocError> {
-    if is(name, b"EXEC") {
-        return b"-ERR EXEC without MULTI\r\n".to_vec(alloc);
-    }
-    if is(name, b"DISCARD") {
-        return b"-ERR DISCARD without MULTI\r\n".to_vec(alloc);
-    }
-    ok(alloc)
+/// Returns a copy of these bytes.
+fn copy_of(alloc: Global, bytes: &[u8]) -> Result<Vec<u8>, AllocError>
+    ensures { IfOk result (λ copy. copy.items ≡ bytes.now) }
+{
+    bytes.to_vec(alloc)
 }
 
-fn ok(alloc: Global) -> Result<Vec<u8>, AllocError> {
-    b"+OK\r\n".to_vec(alloc)
+/// Returns `+PONG`.
+pub(crate) fn pong(alloc: Global) -> Result<Vec<u8>, AllocError>
+    ensures { IfOk result (λ text. (version : Version) →
+        IsReply version (scalar (d.Simple (codes "PONG"))) text.items) }
+{
+    let text = copy_of(alloc, b"+PONG\r\n")?;
+    Ok(text)
 }
 
-/// Returns the error for a command that is not served, with its name, its subcommand and the reason.
-fn refusal(
-    alloc: Global,
-    asked: DecidingWords<'_>,
-    class: Option<Class>,
-) -> Result<Vec<u8>, AllocError> {
-    let text = match (class, entry(asked.name)) {
-        (None, Some(_)) => {
-            let name = shown(asked.name);
-            let word = shown(asked.first);
-            format!(in alloc; "-ERR unknown subcommand '{word}' of '{name}'\r\n")?
-        }
-        (None, None) => {
-            let name = shown(asked.name);
-            format!(in alloc; "-ERR unknown command '{name}'\r\n")?
-        }
-        (Some(_), _) => {
-            let first = (asked.count > 0).then_some(asked.first);
-            let name = full_name(alloc, asked.name, first)?;
-            format!(in alloc; "-ERR '{name}' is not served by this proxy\r\n")?
-        }
-    };
+/// Returns an integer.
+fn integer(alloc: Global, number: u64) -> Result<Vec<u8>, AllocError>
+    ensures { IfOk result (λ text. (version : Version) →
+        IsReply version (scalar (d.Int (pos number))) text.items) }
+{
+    let text = format!(in alloc; ":{}\r\n", number)?;
     Ok(text.into_bytes())
+}
+
+/// Returns a bulk string of these bytes.
+pub(crate) fn bulk(alloc: Global, bytes: &[u8]) -> Result<Vec<u8>, AllocError>
+    ensures { IfOk result (λ text. (version : Version) →
+        IsReply version (word_datum bytes.now) text.items) }
+{
+    let mut text = Vec::new(alloc);
+    setting::bulk(bytes, &mut text)?;
+    Ok(text)
+}
+
+/// Returns an error with this message. A space replaces each CR and LF of the message, so the error
+/// is one line.
+fn error(alloc: Global, message: &[u8]) -> Result<Vec<u8>, AllocError>
+    ensures { IfOk result (λ text. (version : Version) →
+        IsReply version (error (map on_line message.now)) text.items) }
+{
+    let mut text = one_line(alloc, message)?;
+    text.extend_from_slice(b"\r\n")?;
+    Ok(text)
+}
+
+/// Returns a minus and a message, with a space in place of each CR and LF.
+fn one_line(alloc: Global, message: &[u8]) -> Result<Vec<u8>, AllocError>
+    ensures { IfOk result (λ line. line.items ≡ codes "-" ++ map on_line message.now) }
+{
+    let mut line = copy_of(alloc, b"-")?;
+    for byte in message {
+        line.push(on_line(*byte))?;
+    }
+    Ok(line)
+}
+
+/// Returns a space in place of CR or LF.
+fn on_line(byte: u8) -> u8
+    ensures { result ≡ on_line byte }
+{
+    match byte {
+        b'\r' | b'\n' => b' ',
+        _ => byte,
+    }
+}
+
+/// Returns the error for a command or a subcommand that the table does not have. `first` is the word
+/// after the name.
+fn unknown(alloc: Global, name: &[u8], first: Option<&[u8]>) -> Result<Vec<u8>, AllocError>
+    ensures { IfOk result (λ text. (version : Version) → IsError version text.items) }
+{
+    let is_known = entry(name).is_some();
+    let name = shown(name);
+    let message = match first {
+        Some(word) if is_known => {
+            let word = shown(word);
+            format!(in alloc; "ERR unknown subcommand '{word}' of '{name}'")?
+        }
+        _ => format!(in alloc; "ERR unknown command '{name}'")?,
+    };
+    let text = error(alloc, message.as_bytes())?;
+    Ok(text)
+}
+
+/// Returns the error for a command that is not served. `first` is the word after the name.
+fn not_served(alloc: Global, name: &[u8], first: Option<&[u8]>) -> Result<Vec<u8>, AllocError>
+    ensures { IfOk result (λ text. (version : Version) → IsError version text.items) }
+{
+    let name = full_name(alloc, name, first)?;
+    let message = format!(in alloc; "ERR '{name}' is not served by this proxy")?;
+    let text = error(alloc, message.as_bytes())?;
+    Ok(text)
 }
 
 /// Returns the beginning of a word, as errors show it.
@@ -329,16 +382,21 @@ fn full_name(alloc: Global, name: &[u8], first: Option<&[u8]>) -> Result<String,
 /// # Errors
 ///
 /// `AllocError` if an allocation fails.
-pub fn no_more(alloc: Global, name: &[u8], first: Option<&[u8]>) -> Result<Vec<u8>, AllocError> {
+pub fn no_more(alloc: Global, name: &[u8], first: Option<&[u8]>) -> Result<Vec<u8>, AllocError>
+    ensures { IfOk result (λ text. (version : Version) → IsError version text.items) }
+{
     let name = full_name(alloc, name, first)?;
-    let text = format!(in alloc;
-        "-ERR '{name}' needs a connection of its own, and no more are allowed\r\n"
+    let message = format!(in alloc;
+        "ERR '{name}' needs a connection of its own, and no more are allowed"
     )?;
-    Ok(text.into_bytes())
+    let text = error(alloc, message.as_bytes())?;
+    Ok(text)
 }
 
 /// Returns the error of `no_more` for the command with this name, in upper case.
-pub(crate) fn none_left(alloc: Global, name: CommandName) -> Result<Vec<u8>, AllocError> {
+pub(crate) fn none_left(alloc: Global, name: CommandName) -> Result<Vec<u8>, AllocError>
+    ensures { IfOk result (λ text. (version : Version) → IsError version text.items) }
+{
     let command = upper_case(alloc, name.command)?;
     match name.subcommand {
         Some(word) => {
@@ -357,6 +415,10 @@ fn upper_case(alloc: Global, word: &[u8]) -> Result<Vec<u8>, AllocError> {
 }
 
 /// Returns the error for a client that sent bytes that are not a command.
-pub(crate) fn protocol_error(alloc: Global, error: ClientError) -> Result<Vec<u8>, AllocError> {
-    Ok(format!(in alloc; "-ERR Protocol error: {error}\r\n")?.into_bytes())
+pub(crate) fn protocol_error(alloc: Global, cause: ClientError) -> Result<Vec<u8>, AllocError>
+    ensures { IfOk result (λ text. (version : Version) → IsError version text.items) }
+{
+    let message = format!(in alloc; "ERR Protocol error: {cause}")?;
+    let text = error(alloc, message.as_bytes())?;
+    Ok(text)
 }

@@ -1,12 +1,13 @@
 //! Carries out the commands of a client.
 
 ghost use Rattle.std.specs.Prelude.{◌≡◌, ◌↔◌, ℕ, List, None, Some, IfErr, IsTrue, OnErr, OnOk};
-ghost use Rattle.resp_frames.specs.Commands.{IsFrameOfWords};
+ghost use Rattle.resp_frames.specs.Commands.{IsFrameOfWords, TellsWords};
 ghost use Rattle.resp_frames.specs.Texts.{text_of};
 ghost use Rattle.resp_board.specs.Boards.{Ask, Own};
 ghost use Rattle.resp_board.specs.Runs.{KeepsOpen, KeepsRun, Runs, waiting_for};
 ghost use Rattle.resp_proxy.specs.Unfinished.{terms_of};
-ghost use Rattle.resp_value.specs.Bounds.{Bounds};
+ghost use Rattle.resp_proxy.specs.OwnReplies.{Stays};
+ghost use Rattle.resp_proxy.specs.Terms.{Terms};
 ghost use Rattle.resp_proxy.specs.Reasons.{RefusesArray};
 ghost use Rattle.resp_proxy.specs.Refusing.{IsOfBytes};
 ghost use Rattle.resp_proxy.specs.Taking.{Carries};
@@ -17,7 +18,6 @@ use crate::error::ClientError;
 use crate::intake::Intake;
 use crate::local::{local_answer, may_be_answered};
 use crate::route::Route;
-use crate::settings::Settings;
 use resp_board::{AskError, Board, ClientId, OwnError};
 use resp_commands::Class;
 use resp_frames::CommandFrame;
@@ -29,7 +29,6 @@ use std::alloc::{AllocError, Global};
 #[inline(always)]
 pub(crate) fn carry_out(
     alloc: Global,
-    settings: &Settings,
     intake: &Intake,
     counts: &mut ProxyCounts,
     name: &mut Vec<u8>,
@@ -39,10 +38,14 @@ pub(crate) fn carry_out(
 ) -> Result<(), ClientError>
     // A command that may not be sent is answered.
     ensures carried { (front piece : List ℕ) →
-        IsFrameOfWords (terms_of intake.now).rules.limits front piece command.now →
-        OnOk result (Carries (terms_of intake.now) route (text_of command.now.frame) board.old board.new) }
-    ensures refused { IfErr result
-        (RefusesArray (terms_of intake.now).rules.limits (text_of command.now.frame)) }
+        (found : IsFrameOfWords (terms_of intake.now).rules.limits front piece command.now) →
+        Stays (terms_of intake.now) route command.now.words.class found.words.name
+        found.words.arguments → OnOk result (Carries (terms_of intake.now) route
+        (text_of command.now.frame) board.old board.new) }
+    ensures refused { (words : TellsWords (terms_of intake.now).rules.limits
+        (text_of command.now.frame) command.now.words) →
+        Stays (terms_of intake.now) route command.now.words.class words.name words.arguments →
+        IfErr result (RefusesArray (terms_of intake.now) (text_of command.now.frame)) }
     ensures open { (waiting_for board.old route.client ≡ None → ⊥) → IfErr result IsOfBytes }
     ensures unchanged { OnErr result (KeepsRun board.old board.new) }
     ensures same_clients { KeepsOpen board.old board.new }
@@ -51,14 +54,13 @@ pub(crate) fn carry_out(
     if is_sent(command) {
         return forward(board, route, command.frame.text());
     }
-    answer_or_send(alloc, settings, intake, counts, name, board, route, command)
+    answer_or_send(alloc, intake, counts, name, board, route, command)
 }
 
 /// Like `carry_out`, after the command was counted.
 #[inline(never)]
 fn answer_or_send(
     alloc: Global,
-    settings: &Settings,
     intake: &Intake,
     counts: &ProxyCounts,
     name: &mut Vec<u8>,
@@ -67,10 +69,14 @@ fn answer_or_send(
     command: &CommandFrame,
 ) -> Result<(), ClientError>
     ensures carried { (front piece : List ℕ) →
-        IsFrameOfWords (terms_of intake.now).rules.limits front piece command.now →
-        OnOk result (Carries (terms_of intake.now) route (text_of command.now.frame) board.old board.new) }
-    ensures refused { IfErr result
-        (RefusesArray (terms_of intake.now).rules.limits (text_of command.now.frame)) }
+        (found : IsFrameOfWords (terms_of intake.now).rules.limits front piece command.now) →
+        Stays (terms_of intake.now) route command.now.words.class found.words.name
+        found.words.arguments → OnOk result (Carries (terms_of intake.now) route
+        (text_of command.now.frame) board.old board.new) }
+    ensures refused { (words : TellsWords (terms_of intake.now).rules.limits
+        (text_of command.now.frame) command.now.words) →
+        Stays (terms_of intake.now) route command.now.words.class words.name words.arguments →
+        IfErr result (RefusesArray (terms_of intake.now) (text_of command.now.frame)) }
     ensures open { (waiting_for board.old route.client ≡ None → ⊥) → IfErr result IsOfBytes }
     ensures unchanged { OnErr result (KeepsRun board.old board.new) }
     ensures same_clients { KeepsOpen board.old board.new }
@@ -78,13 +84,13 @@ fn answer_or_send(
     no_spelling_begins_another();
     if is_shared(command) {
         let limits = intake.frames.limits();
-        return match local_answer(alloc, &limits, settings.local_ping, counts, board, command) {
+        return match local_answer(alloc, &limits, intake.local_ping, counts, board, command) {
             Ok(Some(answer)) => own(board, route.client, &answer),
             Ok(None) => forward(board, route, command.frame.text()),
             Err(AllocError) => Err(ClientError::OutOfMemory),
         };
     }
-    if command.words.class.is_none() && intake.admits(command) {
+    if intake.admits(command) {
         return forward(board, route, command.frame.text());
     }
     match own_answer(alloc, &intake.frames.limits(), route, name, command) {
@@ -117,8 +123,8 @@ fn is_shared(command: &CommandFrame) -> bool
 fn forward(board: &mut Board, route: Route, text: &[u8]) -> Result<(), ClientError>
     ensures run { OnOk result
         (Runs (Ask route.client route.line.place text.now) board.old board.new) }
-    ensures refused { (limits : Bounds) (command : List ℕ) →
-        IfErr result (RefusesArray limits command) }
+    ensures refused { (terms : Terms) (command : List ℕ) →
+        IfErr result (RefusesArray terms command) }
     ensures open { (waiting_for board.old route.client ≡ None → ⊥) → IfErr result IsOfBytes }
     ensures unchanged { OnErr result (KeepsRun board.old board.new) }
     ensures same_clients { KeepsOpen board.old board.new }
@@ -133,8 +139,8 @@ fn forward(board: &mut Board, route: Route, text: &[u8]) -> Result<(), ClientErr
 /// Gives a client a reply of the proxy itself.
 pub(crate) fn own(board: &mut Board, who: ClientId, text: &[u8]) -> Result<(), ClientError>
     ensures run { OnOk result (Runs (Own who text.now) board.old board.new) }
-    ensures refused { (limits : Bounds) (command : List ℕ) →
-        IfErr result (RefusesArray limits command) }
+    ensures refused { (terms : Terms) (command : List ℕ) →
+        IfErr result (RefusesArray terms command) }
     ensures open { (waiting_for board.old who ≡ None → ⊥) → IfErr result IsOfBytes }
     ensures unchanged { OnErr result (KeepsRun board.old board.new) }
     ensures same_clients { KeepsOpen board.old board.new }

@@ -69,7 +69,6 @@ pub(crate) fn take_commands(
     while used < piece.len() && settings.has_room(board, route) {
         match take_one(
             alloc,
-            settings,
             intake,
             counts,
             unfinished,
@@ -110,7 +109,6 @@ fn ended(used: usize, end: Result<(), ClientError>) -> TakenCommands
 /// dedicated connection.
 fn take_one(
     alloc: Global,
-    settings: &Settings,
     intake: &mut Intake,
     counts: &mut ProxyCounts,
     unfinished: &mut Unfinished,
@@ -136,7 +134,6 @@ fn take_one(
     if unfinished.is_line(intake.lines, piece) {
         take_line(
             alloc,
-            settings,
             intake,
             counts,
             &mut unfinished.line,
@@ -148,7 +145,6 @@ fn take_one(
     } else {
         take_array(
             alloc,
-            settings,
             intake,
             counts,
             &mut unfinished.begun,
@@ -164,7 +160,6 @@ fn take_one(
 /// dedicated connection.
 fn take_array(
     alloc: Global,
-    settings: &Settings,
     intake: &mut Intake,
     counts: &mut ProxyCounts,
     begun: &mut Begun,
@@ -203,9 +198,7 @@ fn take_array(
             Err(AllocError) => Err(ClientError::OutOfMemory),
         };
     }
-    match carry_out(
-        alloc, settings, intake, counts, name, board, route, &command,
-    ) {
+    match carry_out(alloc, intake, counts, name, board, route, &command) {
         Ok(()) => Ok(Part::Whole(used)),
         Err(error) => Err(error),
     }

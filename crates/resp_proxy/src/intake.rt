@@ -1,20 +1,23 @@
 //! Which bytes of a client are commands, and which commands are sent.
 
-ghost use Rattle.std.specs.Prelude.{◌≡◌, List, ℕ, false, true, IfOk, IsTrue, OnErr, OnOk};
+ghost use Rattle.std.specs.Prelude.{◌≡◌, List, ℕ, None, false, true, IfOk, IsTrue, OnErr, OnOk};
+ghost use Rattle.resp_frames.specs.Commands.{TellsWords};
 ghost use Rattle.resp_frames.specs.Framing.{IsReady};
 ghost use Rattle.resp_frames.specs.Texts.{text_of};
 ghost use Rattle.resp_proxy.specs.Leaving.{IsForOwn};
+ghost use Rattle.resp_proxy.specs.OwnReplies.{Stays};
 ghost use Rattle.resp_proxy.specs.Taking.{AdmitsText};
 ghost use Rattle.resp_proxy.specs.Terms.{IsAmong, with_admitted};
 ghost use Rattle.resp_proxy.specs.Unfinished.{terms_by, terms_of};
 ghost use Rattle.resp_value.specs.Words.{texts_of};
 
-use crate::answer::needs_own;
+use crate::reaction::needs_own;
 use crate::route::Route;
 use crate::settings::Settings;
 use resp_commands::entry;
 use resp_frames::{CommandFrame, Frames};
 use resp_scan::whole;
+use resp_value::laws::no_spelling_begins_another;
 use resp_value::version::Version;
 use std::alloc::{AllocError, Global};
 
@@ -27,6 +30,8 @@ pub(crate) struct Intake {
     pub(crate) lines: bool,
     /// The names of commands that are sent although the table does not have them.
     pub(crate) admitted: Vec<Vec<u8>>,
+    /// Whether the proxy itself replies to PING.
+    pub(crate) local_ping: bool,
     /// Whether a client may get a connection of its own.
     pub(crate) admits_own: bool,
 }
@@ -42,6 +47,7 @@ impl Intake {
             frames: Frames::new(alloc, Version::Two, &settings.limits)?,
             lines: settings.lines,
             admitted: Vec::new(alloc),
+            local_ping: settings.local_ping,
             admits_own: false,
         })
     }
@@ -66,6 +72,9 @@ impl Intake {
     pub(crate) fn sets_aside(&self, route: Route, command: &CommandFrame) -> bool
         ensures admitted { IsTrue result → self.now.admits_own ≡ true }
         ensures needed { IsTrue result → IsForOwn command.now.words.class }
+        ensures stays { (words : TellsWords (terms_of self.now).rules.limits
+            (text_of command.now.frame) command.now.words) → result ≡ false →
+            Stays (terms_of self.now) route command.now.words.class words.name words.arguments }
     {
         self.admits_own && needs_own(&self.frames, route.is_first, command)
     }
@@ -73,21 +82,28 @@ impl Intake {
     /// Returns whether a command that the table does not have is sent: it is one of the admitted
     /// commands, in upper, lower or mixed case.
     pub(crate) fn admits(&self, command: &CommandFrame) -> bool
-        ensures { IsTrue result → AdmitsText (terms_of self.now) (text_of command.now.frame) }
+        ensures admitted { IsTrue result → AdmitsText (terms_of self.now) (text_of command.now.frame) }
+        ensures all { command.now.words.class ≡ None →
+            AdmitsText (terms_of self.now) (text_of command.now.frame) → IsTrue result }
     {
-        if self.admitted.is_empty() {
+        no_spelling_begins_another();
+        if command.words.class.is_some() {
             return false;
         }
         let Some(words) = whole::command(command.frame.text(), &self.frames.limits()) else {
             return false;
         };
-        entry(words.name).is_none() && is_among(&self.admitted, words.name)
+        match entry(words.name) {
+            Some(_) => false,
+            None => is_among(&self.admitted, words.name),
+        }
     }
 }
 
 /// Returns whether a name is one of these, in upper, lower or mixed case.
 fn is_among(names: &[Vec<u8>], name: &[u8]) -> bool
-    ensures { IsTrue result → IsAmong (texts_of names.now) name.now }
+    ensures among { IsTrue result → IsAmong (texts_of names.now) name.now }
+    ensures all { IsAmong (texts_of names.now) name.now → IsTrue result }
 {
     for other in names {
         if other.as_slice().eq_ignore_ascii_case(name) {

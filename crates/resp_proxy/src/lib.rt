@@ -25,6 +25,7 @@ mod opening_replies;
 mod part;
 mod probing;
 mod proxy;
+mod reaction;
 mod replies;
 mod route;
 mod server_line;

@@ -1,6 +1,6 @@
 //! Commands that a client sends as lines.
 
-ghost use Rattle.std.specs.Prelude.{◌≡◌, ◌++◌, ◌∷◌, ◌≤◌, None, [], length, true, IfErr, IfOk, IsTrue, OnErr, OnOk};
+ghost use Rattle.std.specs.Prelude.{◌≡◌, ◌++◌, ◌∷◌, ◌≤◌, None, [], false, length, true, IfErr, IfOk, OnErr};
 ghost use Rattle.resp_frames.specs.Commands.{IsCommand};
 ghost use Rattle.resp_line.specs.Inline.{GoesOn};
 ghost use Rattle.resp_board.specs.Runs.{KeepsOpen, KeepsRun, waiting_for};
@@ -16,7 +16,6 @@ use crate::error::ClientError;
 use crate::intake::Intake;
 use crate::part::Part;
 use crate::route::Route;
-use crate::settings::Settings;
 use resp_board::Board;
 use resp_frames::command_of_piece;
 use resp_line::{InlineCommand, InlineError, next_inline};
@@ -27,7 +26,6 @@ use std::alloc::{AllocError, Global};
 /// dedicated connection.
 pub(crate) fn take_line(
     alloc: Global,
-    settings: &Settings,
     intake: &Intake,
     counts: &mut ProxyCounts,
     line: &mut Vec<u8>,
@@ -62,38 +60,55 @@ pub(crate) fn take_line(
     let Some(text) = text else {
         return Ok(Part::Whole(used));
     };
-    if needs_own_text(intake, route, text.as_slice()) {
-        return match with_end(content) {
-            Ok(line) => Ok(Part::Aside(used, line)),
-            Err(AllocError) => Err(ClientError::OutOfMemory),
-        };
+    let taken = take_text(alloc, intake, counts, name, board, route, text.as_slice());
+    let is_aside = match taken {
+        Ok(is_aside) => is_aside,
+        Err(error) => return Err(error),
+    };
+    if !is_aside {
+        return Ok(Part::Whole(used));
     }
-    match carry_out_text(
-        alloc,
-        settings,
-        intake,
-        counts,
-        name,
-        board,
-        route,
-        text.as_slice(),
-    ) {
-        Ok(()) => Ok(Part::Whole(used)),
-        Err(error) => Err(error),
+    match with_end(content) {
+        Ok(line) => Ok(Part::Aside(used, line)),
+        Err(AllocError) => Err(ClientError::OutOfMemory),
     }
 }
 
-/// Returns whether the command with this text needs a dedicated connection, and the client may get
-/// one.
-fn needs_own_text(intake: &Intake, route: Route, text: &[u8]) -> bool
-    ensures admitted { IsTrue result → intake.now.admits_own ≡ true }
-    ensures needed { IsCommand (terms_of intake.now).rules.limits text.now → IsTrue result →
-        BeginsForOwn (terms_of intake.now).rules.limits text.now }
+/// Carries out the command with this text, unless it needs a dedicated connection and the client may
+/// get one. Returns whether it does.
+fn take_text(
+    alloc: Global,
+    intake: &Intake,
+    counts: &mut ProxyCounts,
+    name: &mut Vec<u8>,
+    board: &mut Board,
+    route: Route,
+    text: &[u8],
+) -> Result<bool, ClientError>
+    ensures carried { IsCommand (terms_of intake.now).rules.limits text.now →
+        IfOk result (λ is_aside. is_aside ≡ false →
+        Carries (terms_of intake.now) route text.now board.old board.new) }
+    ensures aside { IsCommand (terms_of intake.now).rules.limits text.now →
+        IfOk result (λ is_aside. is_aside ≡ true →
+        BeginsForOwn (terms_of intake.now).rules.limits text.now) }
+    ensures admitted { IfOk result (λ is_aside. is_aside ≡ true →
+        (intake.now.admits_own ≡ true) × (board.new ≡ board.old)) }
+    ensures refused { IsCommand (terms_of intake.now).rules.limits text.now →
+        IfErr result (RefusesArray (terms_of intake.now) text.now) }
+    ensures open { (waiting_for board.old route.client ≡ None → ⊥) → IfErr result IsOfBytes }
+    ensures unchanged { OnErr result (KeepsRun board.old board.new) }
+    ensures same_clients { KeepsOpen board.old board.new }
 {
     no_spelling_begins_another();
-    match command_of_piece(text, &intake.frames.limits()) {
-        Some(command) => intake.sets_aside(route, &command),
-        None => false,
+    let Some(command) = command_of_piece(text, &intake.frames.limits()) else {
+        return Err(ClientError::OverLimits);
+    };
+    if intake.sets_aside(route, &command) {
+        return Ok(true);
+    }
+    match carry_out(alloc, intake, counts, name, board, route, &command) {
+        Ok(()) => Ok(false),
+        Err(error) => Err(error),
     }
 }
 
@@ -117,33 +132,5 @@ fn error_of_line(error: InlineError) -> ClientError
         InlineError::Quotes => ClientError::Quotes,
         InlineError::OverLimits => ClientError::OverLimits,
         InlineError::OutOfMemory => ClientError::OutOfMemory,
-    }
-}
-
-/// Carries out the command with this text.
-fn carry_out_text(
-    alloc: Global,
-    settings: &Settings,
-    intake: &Intake,
-    counts: &mut ProxyCounts,
-    name: &mut Vec<u8>,
-    board: &mut Board,
-    route: Route,
-    text: &[u8],
-) -> Result<(), ClientError>
-    ensures carried { IsCommand (terms_of intake.now).rules.limits text.now →
-        OnOk result (Carries (terms_of intake.now) route text.now board.old board.new) }
-    ensures refused { IsCommand (terms_of intake.now).rules.limits text.now →
-        IfErr result (RefusesArray (terms_of intake.now).rules.limits text.now) }
-    ensures open { (waiting_for board.old route.client ≡ None → ⊥) → IfErr result IsOfBytes }
-    ensures unchanged { OnErr result (KeepsRun board.old board.new) }
-    ensures same_clients { KeepsOpen board.old board.new }
-{
-    no_spelling_begins_another();
-    match command_of_piece(text, &intake.frames.limits()) {
-        Some(command) => carry_out(
-            alloc, settings, intake, counts, name, board, route, &command,
-        ),
-        None => Err(ClientError::OverLimits),
     }
 }

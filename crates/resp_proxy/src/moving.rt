@@ -5,11 +5,12 @@ ghost use Rattle.resp_board.specs.Runs.{ClientIsFull, HasClosed, KeepsOpen, Keep
 ghost use Rattle.resp_proxy.specs.Clients.{Holds, client_id, is_closing, is_leaving, route_of, waits_for_room};
 ghost use Rattle.resp_proxy.specs.Moving.{IsGivenReply, MayLeave, name_of, number_of};
 ghost use Rattle.resp_proxy.specs.Hellos.{IsReplyWithNumber, own_reply};
+ghost use Rattle.resp_proxy.specs.OwnReplies.{is_client_name};
 ghost use Rattle.resp_value.specs.Canonical.{canonical_text};
 ghost use Rattle.resp_proxy.specs.Proxies.{board_in, replied_to, terms_of};
 ghost use Rattle.resp_proxy.specs.ServerLines.{route_to};
 
-use crate::answer::is_name;
+use crate::answer;
 use crate::client::Client;
 use crate::error::EnterError;
 use crate::giving::has_all;
@@ -68,8 +69,10 @@ impl Client {
 
 /// Returns whether each byte of a name is printable and not a space, as a name of a client has to
 /// be.
-pub fn is_client_name(name: &[u8]) -> bool {
-    is_name(name)
+pub fn is_client_name(name: &[u8]) -> bool
+    ensures { result ≡ is_client_name name.now }
+{
+    answer::is_client_name(name)
 }
 
 impl Proxy {

@@ -72,7 +72,6 @@ impl Model for Proxy {
       settings = p.settings;
       terms = intake_terms p.intake;
       replied = p.replied.items;
-      own = p.intake.admits_own;
     } };
 
     ghost invariant = { λ p. IsReady p.intake.frames };

@@ -302,7 +302,7 @@ fn copy_of(alloc: Global, login: &Option<Login>) -> Result<Option<Login>, AllocE
 }
 
 /// Appends a bulk string of these bytes.
-fn bulk(word: &[u8], out: &mut Vec<u8>) -> Result<(), AllocError>
+pub(crate) fn bulk(word: &[u8], out: &mut Vec<u8>) -> Result<(), AllocError>
     ensures { OnOk result (out.new.items ≡
         out.old.items ++ canonical_text Version.Two (word_datum word.now)) }
 {

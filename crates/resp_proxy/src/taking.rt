@@ -7,11 +7,12 @@ ghost use Rattle.resp_proxy.specs.Clients.{Holds, client_id, is_closing, is_leav
 ghost use Rattle.resp_proxy.specs.Leaving.{LeavesRightly, PutsBack};
 ghost use Rattle.resp_proxy.specs.Refusing.{IsOfBytes};
 ghost use Rattle.resp_proxy.specs.Room.{HasRoom};
-ghost use Rattle.resp_proxy.specs.Taking.{SaysLast, TakesHeld, TakesIn};
+ghost use Rattle.resp_proxy.specs.Taking.{IsLastAnswer, SaysLast, TakesHeld, TakesIn};
 ghost use Rattle.resp_proxy.specs.Terms.{Terms};
 ghost use Rattle.resp_proxy.specs.Unfinished.{terms_of};
+ghost use Rattle.resp_value.specs.declared.version.Version.{Version};
 
-use crate::answer::{none_left, protocol_error};
+use crate::answer::{none_left, ok, protocol_error};
 use crate::carrying::own;
 use crate::client::Client;
 use crate::commands::take_commands;
@@ -274,26 +275,27 @@ pub(crate) fn shut(alloc: Global, client: &mut Client)
 
 /// Gives a client the last reply before it is closed, if the error has a reply and memory suffices.
 fn say_last(alloc: Global, board: &mut Board, route: Route, error: ClientError)
-    ensures said { SaysLast route board.old board.new }
+    ensures said { SaysLast route error board.old board.new }
     ensures same_clients { KeepsOpen board.old board.new }
 {
+    if let Some(text) = last_answer(alloc, error) {
+        let _ = own(board, route.client, &text);
+    }
+}
+
+/// Returns the last reply to a client that is closed because of this error, if the error has a reply
+/// and memory suffices.
+fn last_answer(alloc: Global, error: ClientError) -> Option<Vec<u8>>
+    ensures { (version : Version) →
+        IsLastAnswer version error (option_map (λ text. text.items) result) }
+{
     match error {
-        ClientError::Quit => {
-            let _ = own(board, route.client, b"+OK\r\n");
-        }
-        ClientError::NoneLeft(name) => {
-            if let Ok(text) = none_left(alloc, name) {
-                let _ = own(board, route.client, &text);
-            }
-        }
-        ClientError::Protocol(_)
-        | ClientError::Quotes
-        | ClientError::LongLine
-        | ClientError::OverLimits => {
-            if let Ok(text) = protocol_error(alloc, error) {
-                let _ = own(board, route.client, &text);
-            }
-        }
-        _ => {}
+        ClientError::Quit => ok(alloc).ok(),
+        ClientError::NoneLeft(name) => none_left(alloc, name).ok(),
+        ClientError::Protocol(_) => protocol_error(alloc, error).ok(),
+        ClientError::Quotes => protocol_error(alloc, error).ok(),
+        ClientError::LongLine => protocol_error(alloc, error).ok(),
+        ClientError::OverLimits => protocol_error(alloc, error).ok(),
+        _ => None,
     }
 }

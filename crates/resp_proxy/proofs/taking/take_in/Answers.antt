@@ -13,5 +13,5 @@ returns-in-Err-clause-taken c ready held h =
     subst (λ result. TakesIn terms (route_of c.args.client.now) (held ++ c.args.piece.now) c.shut.new.client result c.args.board.now new) (sym c.in-Err.is)
     (shut-taken terms c.args.client.now.route (held ++ c.args.piece.now) c.take_held-taken.new.client c.shut.new.client c.in-Err.error c.args.board.now mid new
     (c.in-Err.ensures.taken ready held h)
-    (subst (λ route. SaysLast route mid new) (c.shut.ensures.same_client ∙ c.take_held-taken.ensures.same_client) c.say_last.ensures.said)
+    (subst (λ route. SaysLast route c.in-Err.error mid new) (c.shut.ensures.same_client ∙ c.take_held-taken.ensures.same_client) c.say_last.ensures.said)
     (c.shut.ensures.nothing terms) c.shut.ensures.closing)

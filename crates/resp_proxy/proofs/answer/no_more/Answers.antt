@@ -1,0 +1,4 @@
+use Rattle.resp_proxy.proofs.answer.no_more.Goals as goal
+
+pub returns : goal.returns
+returns c version = record { message = _; is_reply = c.in_ok-text.ensures version }

@@ -1,0 +1,4 @@
+use Rattle.resp_proxy.proofs.answer.not_served.Goals as goal
+
+pub returns : goal.returns
+returns c version = record { message = _; is_reply = c.in_ok-text.ensures version }
