@@ -1,11 +1,11 @@
 -- The replies of the proxy itself, and the commands that have them.
-use Rattle.std.proofs.Common.{Global, Vec, ◌≡◌, ◌∙◌, ◌⊎◌, inl, inr, ℕ, zero, suc, ◌<◌, ◌^◌, ◌==◌, pos, Bool, true, false, List, [], ◌∷◌, ◌++◌, codes, length, map, get_or, Option, None, Some, Result, Ok, Err, ap, append_assoc, append-nil, arith, refl, subst, sym}
+use Rattle.std.proofs.Common.{Global, Vec, ◌≡◌, ◌∙◌, ◌⊎◌, inl, inr, ℕ, zero, suc, ◌<◌, ◌^◌, ◌==◌, pos, Bool, true, false, List, [], ◌∷◌, ◌++◌, codes, length, map, get_or, Option, None, Some, Result, Ok, Err, ap, arith, refl, subst, sym}
 use Rattle.std.proofs.lemmas.Bool.{false≢true, ltb-true}
 use Rattle.std.proofs.lemmas.List.Elements.{All-contains}
 use Rattle.std.proofs.lemmas.Slice.Eq.{bytes_eq-Decides}
 use Rattle.std.specs.Char.{to_ascii_lowercase}
-use Rattle.std.specs.List.{AllByRecursion, list_all}
-use Rattle.std.specs.Prelude.{Contains, IfOk, IfSome, All, if◌then◌else◌, not, ◌&&◌, nat_lt}
+use Rattle.std.specs.List.{list_all}
+use Rattle.std.specs.Prelude.{IfOk, IfSome, if◌then◌else◌, not, ◌&&◌, nat_lt}
 use Rattle.std.specs.Fmt as fmt
 use Rattle.std.specs.Str.{byte, bytes_eq, str_to_ascii_lowercase}
 use Rattle.resp_commands.specs.declared.command.Class.{Class}
@@ -14,7 +14,7 @@ use Rattle.resp_commands.specs.declared.table.TheConstants.{COMMANDS}
 use Rattle.resp_commands.specs.Names.{HasName, IsUnknown}
 use Rattle.resp_proxy.specs.Hellos.{own_reply}
 use Rattle.resp_proxy.specs.Leaving.{IsForOwn, MayNeedOwn}
-use Rattle.resp_proxy.specs.OwnReplies.{ClosesHttp, IsError, IsListed, IsReply, IsReplyOf, LeavesToServer, Names, NeedsAnother, Quits, Says, SaysCounts, SaysHello, SaysName, SaysNotServed, SaysNumber, SaysUnknown, Treatment, client_treatment, error, hello_treatment, is_client_name, keeps_by_hello, keeps_by_select, keeps_setting, moves, name_datum, ok, on_line, own_treatment, select_treatment, setname_treatment, setting_treatment, shared_treatment, subcommand_treatment, treatment, unlisted_treatment, unshared_treatment, with_words, wrong_count}
+use Rattle.resp_proxy.specs.OwnReplies.{ClosesHttp, IsListed, IsReply, IsReplyOf, NeedsAnother, Quits, Says, SaysName, SaysNumber, SaysUnknown, Treatment, client_treatment, error, hello_treatment, keeps_by_hello, keeps_by_select, moves, name_datum, ok, on_line, select_treatment, setname_treatment, setting_treatment, shared_treatment, treatment, unshared_treatment, with_words, wrong_count}
 use Rattle.resp_proxy.specs.Reasons.{Closes, FitsAnswer, IsNoneLeft, Reacts}
 use Rattle.resp_proxy.specs.Refusing.{SameLetters}
 use Rattle.resp_proxy.specs.Taking.{IsLocalReply}
@@ -27,9 +27,9 @@ use Rattle.resp_frames.specs.Keys.{IsFirst}
 use Rattle.std.specs.Borrow.{Bor}
 use Rattle.std.specs.declared.alloc.AllocError.{AllocError}
 use Rattle.resp_session.specs.Operations.{is_name}
-use Rattle.resp_value.proofs.CanonicalTrees.{decimal_is_digits, decimal_is_number, number-decimal}
+use Rattle.resp_value.proofs.CanonicalTrees.{decimal_is_digits, decimal_is_number}
 use Rattle.resp_value.proofs.StdDigits.{decimal-std}
-use Rattle.resp_value.specs.Bytes.{IsByte, IsLine, IsPlain, IsText}
+use Rattle.resp_value.specs.Bytes.{IsLine, IsPlain, IsText}
 use Rattle.resp_value.specs.Canonical.{canonical_text, canonical_tree}
 use Rattle.resp_value.specs.Data.{scalar}
 use Rattle.resp_value.specs.Data as d

@@ -1,5 +1,5 @@
 -- The replies of the proxy itself, by the class and the words of a command.
-use Rattle.std.specs.Prelude.{◌≡◌, ◌==◌, ℕ, Bool, true, false, ◌&&◌, not, pos, List, [], ◌∷◌, ◌++◌, length, map, Option, None, Some, MatchOption, if◌then◌else◌, nat_le, codes}
+use Rattle.std.specs.Prelude.{◌≡◌, ◌==◌, ℕ, Bool, true, false, ◌&&◌, not, pos, List, [], ◌∷◌, length, map, Option, None, Some, MatchOption, if◌then◌else◌, nat_le, codes}
 use Rattle.std.specs.List.{list_all}
 use Rattle.std.specs.Str.{byte, bytes_eq}
 use Rattle.resp_commands.specs.Classes.{HasClass, HasNoClass}
@@ -20,7 +20,6 @@ use Rattle.resp_value.specs.Rules.{HasVersion}
 use Rattle.resp_value.specs.Trees.{IsTree}
 use Rattle.resp_value.specs.Words.{word_datum}
 use Rattle.resp_value.specs.declared.version.Version.{Version}
-use Rattle.resp_value.specs.declared.version.Version.TheVariants.{Two}
 
 -- The text is the canonical encoding of this value in this version. The value is no push, and holds none.
 pub record IsReply (version : Version) (reply : Datum) (text : List ℕ) : Type 0 where

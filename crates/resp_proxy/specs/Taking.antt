@@ -1,5 +1,5 @@
 -- The commands that are taken from the bytes of a client.
-use Rattle.std.specs.Prelude.{◌≡◌, ℕ, Bool, ◌≤◌, List, [], ◌∷◌, ◌++◌, length, map, take, Ok, Option, None, Some, MatchOption, OnOk, OnErr, IfErr, Result, true}
+use Rattle.std.specs.Prelude.{◌≡◌, ℕ, Bool, ◌≤◌, List, [], ◌∷◌, ◌++◌, length, map, take, Ok, Option, None, Some, OnOk, OnErr, IfErr, Result, true}
 use Rattle.std.specs.List.{AllByRecursion, concat}
 use Rattle.resp_frames.specs.declared.begun.Begun.{Begun}
 use Rattle.resp_frames.specs.Framing.{HasBegun, IsReady}

@@ -1,4 +1,4 @@
-use Rattle.std.proofs.Common.{◌≡◌, ◌∙◌, ◌<◌, Global, Vec, ap, arith, length, map, sym, ℕ}
+use Rattle.std.proofs.Common.{◌∙◌, ◌<◌, Global, Vec, ap, arith, length, map, sym, ℕ}
 use Rattle.std.proofs.lemmas.Bool.{true≢false}
 use Rattle.std.specs.Char.{to_ascii_lowercase}
 use Rattle.resp_proxy.proofs.Intakes.{among-past, among-rest}
