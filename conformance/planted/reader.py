@@ -17,7 +17,7 @@ verbatim_with_its_encoding bulk_error_is_a_string set_loses_equal_numbers map_lo
 streamed_map_ends_after_a_key text_is_stripped text_is_utf_8 nul_ends_a_text unknown_type_is_a_line error_drops_the_rest
 crlf_cut_in_two length_with_plus zeros_are_octal null_with_text depth_without_limit room_for_the_whole_length
 error_is_a_string minus_zero_is_one_less integer_of_32_bits array_null_element_ends_it chunk_end_unchecked
-rejected_bytes_are_skipped exponent_is_refused
+rejected_bytes_are_skipped
 """.split()
 MORE = object()
 DEPTH = 150
@@ -278,8 +278,6 @@ class Reader:
         whole, point, part = mantissa.partition(b".")
         exponent = exponent[1:] if exponent[:1] in (b"+", b"-") else exponent
         if not whole.isdigit() or bool(point) != part.isdigit() or bool(e) != exponent.isdigit():
-            raise Bad
-        if e and self.error == "exponent_is_refused":
             raise Bad
         return ["double", text.decode()]
 
