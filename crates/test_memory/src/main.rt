@@ -102,7 +102,7 @@ fn parts_of_values(alloc: Global) -> [Part; 27] {
 }
 
 /// Runs the parts of the programs that serve or forward, and returns their outcomes in order.
-fn parts_of_connections(alloc: Global) -> [Part; 40] {
+fn parts_of_connections(alloc: Global) -> [Part; 41] {
     [
         ("databases new", hosting::of_new(alloc)),
         ("databases lines", hosting::of_lines(alloc)),
